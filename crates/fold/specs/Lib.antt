@@ -1,1 +1,3 @@
 pub mod Fold
+pub mod Promise
+pub mod Rows
