@@ -54,3 +54,27 @@ unknown-from row (suc n) i = cond (is-kind (call-byte row i 0)) (unknown-from ro
 -- the length is looked at before the kinds
 abbrev pub row-refusal : List ℕ → Option Refusal
 row-refusal row = cond (eqb (length row % 8) 0) (unknown-from row (length row / 8) 0) (Some (Length (length row)))
+
+-- the byte of a store is one
+abbrev pub Stores-byte : Call → Type 0
+Stores-byte (Fork p) = Unit {0}
+Stores-byte (Leave p) = Unit {0}
+Stores-byte (Map p v) = Unit {0}
+Stores-byte (Drop p v) = Unit {0}
+Stores-byte (Make p v) = Unit {0}
+Stores-byte (Look p v q u) = Unit {0}
+Stores-byte (Load p v o) = Unit {0}
+Stores-byte (Store p v o x) = x < 256
+Stores-byte Counts = Unit {0}
+
+abbrev pub Stores-bytes : List Call → Type 0
+Stores-bytes [] = Unit {0}
+Stores-bytes (c ∷ cs) = Stores-byte c × Stores-bytes cs
+
+-- a row that is not refused says one call for each eight bytes, and call i is the one that its bytes say
+abbrev pub Row-says : Type 0
+Row-says = (row : List ℕ) → row-refusal row ≡ None → (length (calls-of row) ≡ length row / 8) × ((i : ℕ) → nth (calls-of row) i ≡ call-at row i)
+
+-- what a row of bytes stores are bytes
+abbrev pub Row-stores : Type 0
+Row-stores = (row : List ℕ) → ((k : ℕ) → getD row k 0 < 256) → Stores-bytes (calls-of row)
