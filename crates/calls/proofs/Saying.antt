@@ -13,9 +13,9 @@ use Rattle.calls.specs.declared.answer.Refusal.the-variants.{Length, Kind}
 use Rattle.calls.specs.declared.request.Call.{Call}
 use Rattle.calls.specs.declared.request.Call.the-variants.{Counts}
 use Rattle.calls.specs.Row.{call-table, call-of, call-byte, call-at, calls-from, calls-of, is-kind, unknown-from, row-refusal}
-use Rattle.calls.specs.Row.{Stores-byte, Stores-bytes, Row-says, Row-stores}
+use Rattle.calls.specs.Row.{Stores-byte, Stores-bytes, Row-says, Row-refuses-first, Row-stores}
 use Rattle.std.proofs.shelf.Maps.{nth-getD, nth-past}
-use Rattle.std.proofs.shelf.Tests.{false≢true, leb-true, lt-ltb, le-ltb, and-parts, cases-lt, cond-true, cond-false, cond-both}
+use Rattle.std.proofs.shelf.Tests.{false≢true, leb-true, lt-ltb, le-ltb, and-parts, cases-lt, cases-eq, cases-bool, cond-true, cond-false, cond-both}
 use Rattle.std.specs.declared.option.Option.{Option}
 use Rattle.std.specs.declared.option.Option.the-variants.{Some, None}
 use Rattle.std.specs.shelf.Maps.{nth}
@@ -65,6 +65,38 @@ row-says row h =
           (λ ge. nth-past (calls-from row n 0) i (omega (arith, all .0)) ∙ sym (cond-false _ _ _ (le-ltb i n ge)))
           (cases-lt i n),
     )
+
+-- of n calls from call i on, the one that is refused is the first with a kind that is none
+abbrev First : List ℕ → ℕ → ℕ → ℕ → Type 0
+First row n i j = (i ≤ j) × (j < i + n) × (is-kind (call-byte row j 0) ≡ false) × ((k : ℕ) → i ≤ k → k < j → is-kind (call-byte row k 0) ≡ true)
+
+first-later : (row : List ℕ) (n i j : ℕ) → is-kind (call-byte row i 0) ≡ true → First row n (i + 1) j → First row (suc n) i j
+first-later row n i j t rest =
+    (omega arith, omega arith, rest .2, λ k ge lt. ⊎-elim (λ e. subst (λ (x : ℕ). is-kind (call-byte row x 0) ≡ true) e t) (λ ne. rest .3 k (omega arith) lt) (cases-eq i k))
+
+first-here : (row : List ℕ) (n i j : ℕ) → is-kind (call-byte row i 0) ≡ false → i ≡ j → First row (suc n) i j
+first-here row n i j f same =
+    (omega arith, omega arith, subst (λ (x : ℕ). is-kind (call-byte row x 0) ≡ false) same f, λ k ge lt. absurd (omega arith))
+
+first : (row : List ℕ) (n i j : ℕ) → unknown-from row n i ≡ Some (Kind j) → First row n i j
+unfolding unknown-from
+first row zero i j h = let z : _≡_ {A = ℕ} 0 1 = cc in absurd (omega arith)
+first row (suc n) i j h =
+    ⊎-elim
+    (λ t. first-later row n i j t (first row n (i + 1) j (sym (cond-true _ _ _ t) ∙ h)))
+    (λ f. let e = sym (cond-false _ _ _ f) ∙ h in first-here row n i j f (cc))
+    (cases-bool (is-kind (call-byte row i 0)))
+
+pub row-refuses-first : Row-refuses-first
+row-refuses-first row i h =
+    let n = length row / 8 in
+    let found-in : unknown-from row n 0 ≡ Some (Kind i) =
+    ⊎-elim (λ t. sym (cond-true _ _ _ t) ∙ h)
+    (λ f. let e = sym (cond-false _ _ _ f) ∙ h in let z : _≡_ {A = ℕ} 0 1 = cc in absurd (omega arith))
+    (cases-bool (eqb (length row % 8) 0))
+    in
+    let one = first row n 0 i found-in in
+    (omega arith, one .2, λ k lt. one .3 k (omega arith) lt)
 
 nth-stores : (cs : List Call) (k : ℕ) → Stores-bytes cs → found (nth cs k) Stores-byte
 nth-stores [] k h = tt

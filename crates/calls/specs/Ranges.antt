@@ -1,7 +1,7 @@
 -- Which sizes a machine may have, and the ten bytes that say them. Assumes nothing.
 use mathlib.Core.Bool.{Bool, cond, _&&_}
 use mathlib.Core.List.{List, [], _∷_}
-use Prim.Native.Nat.{ℕ, suc, _+_, _*_}
+use Prim.Native.Nat.{ℕ, suc, _+_, _*_, _≤_}
 use lib.Dec.{leb}
 use lib.ListN.{getD}
 use Rattle.calls.specs.declared.answer.Refusal.{Refusal}
@@ -31,6 +31,11 @@ out-of-range k (s ∷ ss) = cond (leb (s .1) (s .0) && leb (s .0) (s .2)) (out-o
 
 abbrev pub sizes-refusal : Sizes → Option Refusal
 sizes-refusal z = out-of-range 0 (ranged z)
+
+-- each is in its range
+abbrev pub In-range : List Ranged → Type 0
+In-range [] = Unit {0}
+In-range (s ∷ ss) = (s .1 ≤ s .0) × (s .0 ≤ s .2) × In-range ss
 
 -- number k of two bytes each, the low one first; a byte that is missing counts as 0
 abbrev pub number-at : List ℕ → ℕ → ℕ

@@ -1,6 +1,6 @@
 -- A row of calls as bytes, eight to a call: which calls it says, and why it is refused. Assumes nothing.
 use mathlib.Core.Path.{_≡_}
-use mathlib.Core.Bool.{Bool, cond, _&&_}
+use mathlib.Core.Bool.{Bool, true, false, cond, _&&_}
 use mathlib.Core.List.{List, [], _∷_, _++_}
 use Prim.Native.Nat.{ℕ, zero, suc, _+_, _*_, _/_, _%_, _<_}
 use lib.Dec.{eqb, leb, ltb}
@@ -74,6 +74,11 @@ Stores-bytes (c ∷ cs) = Stores-byte c × Stores-bytes cs
 -- a row that is not refused says one call for each eight bytes, and call i is the one that its bytes say
 abbrev pub Row-says : Type 0
 Row-says = (row : List ℕ) → row-refusal row ≡ None → (length (calls-of row) ≡ length row / 8) × ((i : ℕ) → nth (calls-of row) i ≡ call-at row i)
+
+-- a kind that is refused is the first that is none
+abbrev pub Row-refuses-first : Type 0
+Row-refuses-first =
+    (row : List ℕ) (i : ℕ) → row-refusal row ≡ Some (Kind i) → (i < length row / 8) × (is-kind (call-byte row i 0) ≡ false) × ((k : ℕ) → k < i → is-kind (call-byte row k 0) ≡ true)
 
 -- what a row of bytes stores are bytes
 abbrev pub Row-stores : Type 0

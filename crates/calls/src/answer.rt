@@ -41,10 +41,10 @@ impl Refusal {
         ensures { λ r. ⌜ r ≡ refusal-place self ⌝ }
     {
         match self {
-            Refusal::Size(place) => place,
-            Refusal::Lent(place) => place,
-            Refusal::Length(place) => place,
-            Refusal::Kind(place) => place,
+            Refusal::Size(place)
+            | Refusal::Lent(place)
+            | Refusal::Length(place)
+            | Refusal::Kind(place) => place,
         }
     }
 }

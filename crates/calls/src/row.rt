@@ -3,7 +3,7 @@ ghost use mathlib.Core.Path.{_≡_};
 ghost use Prim.Native.Nat.{_/_};
 ghost use lib.ListN.{length};
 ghost use Rattle.calls.specs.Refusals.{unless-refused};
-ghost use Rattle.calls.specs.Row.{Row-says, Row-stores, call-at, is-kind, row-refusal};
+ghost use Rattle.calls.specs.Row.{Row-refuses-first, Row-says, Row-stores, call-at, is-kind, row-refusal};
 use crate::answer::Refusal;
 use crate::request::Call;
 
@@ -45,11 +45,12 @@ pub fn call_at(row: &[u8], i: usize) -> Option<Call>
 fn is_kind(kind: u8) -> bool
     ensures { λ r. ⌜ r ≡ is-kind kind ⌝ }
 {
-    1 <= kind && kind <= 9
+    matches!(kind, 1..=9)
 }
 
 // What holds of every row, for whoever reads one: the calls of the row as a list are those that `call_at` answers.
 pub fn row_laws()
     ensures says { λ _. ⌜ Row-says ⌝ }
+    ensures first { λ _. ⌜ Row-refuses-first ⌝ }
     ensures stores { λ _. ⌜ Row-stores ⌝ }
 {}

@@ -1,13 +1,11 @@
 // How large a machine is. Pages have 256 bytes.
 ghost use mathlib.Core.Path.{_≡_};
-ghost use mathlib.Core.Bool.{cond, _&&_};
+ghost use mathlib.Core.List.{[], _∷_};
 ghost use Prim.Native.Nat.{_<_};
-ghost use lib.Dec.{leb};
 ghost use lib.ListN.{getD};
-ghost use Rattle.calls.specs.Ranges.{number-at, sizes-of, sizes-refusal};
+ghost use Rattle.calls.specs.Ranges.{In-range, number-at, out-of-range, ranged, sizes-of, sizes-refusal};
 ghost use Rattle.calls.specs.Refusals.{unless-refused};
-ghost use Rattle.calls.specs.declared.answer.Refusal.the-variants.{Size};
-ghost use Rattle.std.specs.declared.option.Option.the-variants.{Some, None};
+ghost use Rattle.std.specs.Vec.{made};
 use crate::answer::Refusal;
 
 #[derive(Clone, Copy, PartialEq, Eq, Debug)]
@@ -35,7 +33,8 @@ impl Sizes {
 
     // The first size that is out of its range is the one that is refused.
     pub fn check(self) -> Result<(), Refusal>
-        ensures { λ r. ⌜ r ≡ unless-refused (sizes-refusal self) tt ⌝ }
+        ensures value { λ r. ⌜ r ≡ unless-refused (sizes-refusal self) tt ⌝ }
+        ensures ok { λ r. ⌜ made r (λ _. In-range (ranged self)) ⌝ }
     {
         in_range(0, self.processes, 1, 16)?;
         in_range(1, self.pages, 1, 64)?;
@@ -46,7 +45,7 @@ impl Sizes {
 }
 
 fn in_range(place: usize, size: usize, least: usize, most: usize) -> Result<(), Refusal>
-    ensures { λ r. ⌜ r ≡ unless-refused (cond (leb least size && leb size most) None (Some (Size place))) tt ⌝ }
+    ensures { λ r. ⌜ r ≡ unless-refused (out-of-range place ((size, least, most) ∷ [])) tt ⌝ }
 {
     if least <= size && size <= most {
         Ok(())
