@@ -4,103 +4,88 @@ use crate::row;
 use crate::sizes::*;
 use std::test::*;
 
-const LEAST: Sizes = Sizes {
-    processes: 1,
-    pages: 1,
-    segments: 0,
-    frames: 1,
-    places: 0,
-};
-
-const MOST: Sizes = Sizes {
-    processes: 16,
-    pages: 64,
-    segments: 16,
-    frames: 512,
-    places: 512,
-};
-
 #[test]
 fn sizes_are_held_to_their_ranges() -> Result<(), Fail> {
-    check_eq(LEAST.check(), Ok(()))?;
-    check_eq(MOST.check(), Ok(()))?;
-    let outside = [
-        (
-            0,
-            Sizes {
-                processes: 0,
-                ..LEAST
-            },
-        ),
-        (
-            0,
-            Sizes {
-                processes: 17,
-                ..MOST
-            },
-        ),
-        (1, Sizes { pages: 0, ..LEAST }),
-        (1, Sizes { pages: 65, ..MOST }),
-        (
-            2,
-            Sizes {
-                segments: 17,
-                ..MOST
-            },
-        ),
-        (3, Sizes { frames: 0, ..LEAST }),
-        (
-            3,
-            Sizes {
-                frames: 513,
-                ..MOST
-            },
-        ),
-        (
-            4,
-            Sizes {
-                places: 513,
-                ..MOST
-            },
-        ),
+    let answers = [
+        ([1, 1, 0, 1, 0], Ok(())),
+        ([16, 64, 16, 512, 512], Ok(())),
+        ([0, 1, 0, 1, 0], Err(Refusal::Size(0))),
+        ([17, 64, 16, 512, 512], Err(Refusal::Size(0))),
+        ([1, 0, 0, 1, 0], Err(Refusal::Size(1))),
+        ([16, 65, 16, 512, 512], Err(Refusal::Size(1))),
+        ([16, 64, 17, 512, 512], Err(Refusal::Size(2))),
+        ([1, 1, 0, 0, 0], Err(Refusal::Size(3))),
+        ([16, 64, 16, 513, 512], Err(Refusal::Size(3))),
+        ([16, 64, 16, 512, 513], Err(Refusal::Size(4))),
         // the first of two
-        (
-            1,
-            Sizes {
-                pages: 0,
-                places: 513,
-                ..LEAST
-            },
-        ),
+        ([16, 65, 16, 512, 513], Err(Refusal::Size(1))),
     ];
-    for (place, sizes) in outside {
-        check_eq(sizes.check(), Err(Refusal::Size(place)))?;
+    for ([processes, pages, segments, frames, places], answer) in answers {
+        let sizes = Sizes {
+            processes,
+            pages,
+            segments,
+            frames,
+            places,
+        };
+        check_eq(sizes.check(), answer)?;
     }
     Ok(())
 }
 
 #[test]
 fn sizes_are_read_low_byte_first() -> Result<(), Fail> {
+    // a byte past the tenth is not read
+    let long = Sizes::from_bytes(&[16, 0, 64, 0, 17, 0, 0, 2, 1, 2, 255]);
     check_eq(
-        Sizes::from_bytes(b"\x10\0\x40\0\x10\0\0\x02\0\x02and more"),
-        MOST,
+        long,
+        Sizes {
+            processes: 16,
+            pages: 64,
+            segments: 17,
+            frames: 512,
+            places: 513,
+        },
     )?;
-    check_eq(Sizes::from_bytes(b"\x01\0\x01\0\0\0\x01"), LEAST)
+    let short = Sizes::from_bytes(&[1, 0, 1]);
+    check_eq(
+        short,
+        Sizes {
+            processes: 1,
+            pages: 1,
+            segments: 0,
+            frames: 0,
+            places: 0,
+        },
+    )
 }
 
 #[test]
 fn rows_are_refused_as_a_whole() -> Result<(), Fail> {
-    check_eq(row::count(b""), Ok(0))?;
-    check_eq(row::count(b"\x02......"), Err(Refusal::Length(7)))?;
-    check_eq(row::count(b"\x01......."), Ok(1))?;
-    check_eq(row::count(b"\0........"), Err(Refusal::Length(9)))?;
-    check_eq(row::count(b"\0......."), Err(Refusal::Kind(0)))?;
-    check_eq(row::count(b"\x09.......\x0a......."), Err(Refusal::Kind(1)))
+    let row = [9, 0, 0, 0, 0, 0, 0, 0, 10, 0, 0, 0, 0, 0, 0, 0];
+    let answers = [
+        (0, 0, Ok(0)),
+        (0, 7, Err(Refusal::Length(7))),
+        (0, 8, Ok(1)),
+        (0, 9, Err(Refusal::Length(9))),
+        (1, 9, Err(Refusal::Kind(0))),
+        (0, 16, Err(Refusal::Kind(1))),
+        // the length is looked at before the kinds
+        (1, 10, Err(Refusal::Length(9))),
+    ];
+    for (start, end, answer) in answers {
+        check_eq(
+            row::count(row.get(start..end).ok_or("no such part")?),
+            answer,
+        )?;
+    }
+    Ok(())
 }
 
 #[test]
 fn calls_are_read_of_eight_bytes() -> Result<(), Fail> {
-    let (process, page, from_process, from_page) = (10, 20, 30, 40);
+    let (process, page) = (10, 20);
+    let (from_process, from_page) = (30, 40);
     let (offset, byte) = (30, 40);
     let calls = [
         None,
@@ -129,27 +114,18 @@ fn calls_are_read_of_eight_bytes() -> Result<(), Fail> {
         Some(Call::Counts),
         None,
     ];
-    let mut kind = 0u8;
-    for call in calls {
+    for (kind, call) in (0u8..11).zip(calls) {
         // the last three bytes are not read
         let row = [1, 0, 0, 0, 0, 0, 0, 0, kind, 10, 20, 30, 40, 0, 255, kind];
         check_eq(row::call_at(&row, 1), call)?;
-        check_eq(row::call_at(&row, 2), None)?;
-        kind = kind.wrapping_add(1);
     }
-    Ok(())
+    check_eq(row::call_at(&[1, 0, 0, 0, 0, 0, 0], 0), None)
 }
 
 #[test]
 fn answers_and_refusals_are_written(rt: LibcRuntime) -> Result<(), Fail> {
-    let lines = format!(
-        rt.alloc(),
-        "{} {} {}",
-        Answer::Done(512),
-        Answer::Full,
-        Answer::Fault
-    )?;
-    check_eq(lines.as_str(), "done 512 full fault")?;
-    let line = Refusal::Length(9).to_string(rt.alloc())?;
-    check_eq(line.as_str(), "refused 3 9")
+    let (done, full, fault) = (Answer::Done(512), Answer::Full, Answer::Fault);
+    let refusal = Refusal::Length(9);
+    let text = format!(rt.alloc(), "{done}, {full}, {fault}, {refusal}")?;
+    check_eq(text.as_str(), "done 512, full, fault, refused 3 9")
 }
