@@ -3,7 +3,7 @@ ghost use mathlib.Core.Path.{_≡_};
 ghost use Rattle.calls.specs.Row.{call-of};
 
 // A number that names no process, page or byte of the machine is allowed here, and answered as a fault.
-#[derive(Clone, Copy, PartialEq, Eq, Debug)]
+#[derive(Clone, Copy, PartialEq, Eq)]
 pub enum Call {
     Fork {
         process: usize,

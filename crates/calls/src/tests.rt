@@ -117,9 +117,9 @@ fn calls_are_read_of_eight_bytes() -> Result<(), Fail> {
     for (kind, call) in (0u8..11).zip(calls) {
         // the last three bytes are not read
         let row = [1, 0, 0, 0, 0, 0, 0, 0, kind, 10, 20, 30, 40, 0, 255, kind];
-        check_eq(row::call_at(&row, 1), call)?;
+        check(row::call_at(&row, 1) == call)?;
     }
-    check_eq(row::call_at(&[1, 0, 0, 0, 0, 0, 0], 0), None)
+    check(row::call_at(&[1, 0, 0, 0, 0, 0, 0], 0).is_none())
 }
 
 #[test]
