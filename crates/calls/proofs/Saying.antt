@@ -12,7 +12,7 @@ use Rattle.calls.specs.declared.answer.Refusal.{Refusal}
 use Rattle.calls.specs.declared.answer.Refusal.the-variants.{Length, Kind}
 use Rattle.calls.specs.declared.request.Call.{Call}
 use Rattle.calls.specs.declared.request.Call.the-variants.{Counts}
-use Rattle.calls.specs.Row.{call-table, call-of, call-byte, call-at, calls-from, calls-of, is-kind, unknown-from, row-refusal}
+use Rattle.calls.specs.Row.{call-table, call-of, kind-at, call-at, calls-from, calls-of, is-kind, unknown-from}
 use Rattle.calls.specs.Row.{Stores-byte, Stores-bytes, Row-says, Row-refuses-first, Row-stores}
 use Rattle.std.proofs.shelf.Maps.{nth-getD, nth-past}
 use Rattle.std.proofs.shelf.Tests.{false≢true, leb-true, lt-ltb, le-ltb, and-parts, cases-lt, cases-eq, cases-bool, cond-true, cond-false, cond-both}
@@ -46,8 +46,8 @@ says : (row : List ℕ) (n i : ℕ) → i + n ≤ length row / 8 → unknown-fro
 unfolding calls-from unknown-from
 says row zero i le h = (refl, λ k l. absurd (omega arith))
 says row (suc n) i le h =
-    let known = passed (is-kind (call-byte row i 0)) (unknown-from row n (i + 1)) (Kind i) h in
-    let said = kind-says (call-byte row i 0) (call-byte row i 1) (call-byte row i 2) (call-byte row i 3) (call-byte row i 4) (known .0) in
+    let known = passed (is-kind (kind-at row i)) (unknown-from row n (i + 1)) (Kind i) h in
+    let said = kind-says (kind-at row i) (getD row (8 * i + 1) 0) (getD row (8 * i + 2) 0) (getD row (8 * i + 3) 0) (getD row (8 * i + 4) 0) (known .0) in
     let inside : i < length row / 8 = omega arith in
     let is : call-at row i ≡ Some (said .0) = cond-true _ _ _ (lt-ltb i (length row / 8) inside) ∙ said .1 in
     let rest = says row n (i + 1) (omega arith) (known .1) in
@@ -68,15 +68,15 @@ row-says row h =
 
 -- of n calls from call i on, the one that is refused is the first with a kind that is none
 abbrev First : List ℕ → ℕ → ℕ → ℕ → Type 0
-First row n i j = (i ≤ j) × (j < i + n) × (is-kind (call-byte row j 0) ≡ false) × ((k : ℕ) → i ≤ k → k < j → is-kind (call-byte row k 0) ≡ true)
+First row n i j = (i ≤ j) × (j < i + n) × (is-kind (kind-at row j) ≡ false) × ((k : ℕ) → i ≤ k → k < j → is-kind (kind-at row k) ≡ true)
 
-first-later : (row : List ℕ) (n i j : ℕ) → is-kind (call-byte row i 0) ≡ true → First row n (i + 1) j → First row (suc n) i j
+first-later : (row : List ℕ) (n i j : ℕ) → is-kind (kind-at row i) ≡ true → First row n (i + 1) j → First row (suc n) i j
 first-later row n i j t rest =
-    (omega arith, omega arith, rest .2, λ k ge lt. ⊎-elim (λ e. subst (λ (x : ℕ). is-kind (call-byte row x 0) ≡ true) e t) (λ ne. rest .3 k (omega arith) lt) (cases-eq i k))
+    (omega arith, omega arith, rest .2, λ k ge lt. ⊎-elim (λ e. subst (λ (x : ℕ). is-kind (kind-at row x) ≡ true) e t) (λ ne. rest .3 k (omega arith) lt) (cases-eq i k))
 
-first-here : (row : List ℕ) (n i j : ℕ) → is-kind (call-byte row i 0) ≡ false → i ≡ j → First row (suc n) i j
+first-here : (row : List ℕ) (n i j : ℕ) → is-kind (kind-at row i) ≡ false → i ≡ j → First row (suc n) i j
 first-here row n i j f same =
-    (omega arith, omega arith, subst (λ (x : ℕ). is-kind (call-byte row x 0) ≡ false) same f, λ k ge lt. absurd (omega arith))
+    (omega arith, omega arith, subst (λ (x : ℕ). is-kind (kind-at row x) ≡ false) same f, λ k ge lt. absurd (omega arith))
 
 first : (row : List ℕ) (n i j : ℕ) → unknown-from row n i ≡ Some (Kind j) → First row n i j
 unfolding unknown-from
@@ -85,7 +85,7 @@ first row (suc n) i j h =
     ⊎-elim
     (λ t. first-later row n i j t (first row n (i + 1) j (sym (cond-true _ _ _ t) ∙ h)))
     (λ f. let e = sym (cond-false _ _ _ f) ∙ h in first-here row n i j f (cc))
-    (cases-bool (is-kind (call-byte row i 0)))
+    (cases-bool (is-kind (kind-at row i)))
 
 pub row-refuses-first : Row-refuses-first
 row-refuses-first row i h =
@@ -110,7 +110,7 @@ of-stores (suc k) p v q u h = nth-stores (call-table p v q u) k (tt, (tt, (tt, (
 at-stores : (row : List ℕ) → ((k : ℕ) → getD row k 0 < 256) → (i : ℕ) → found (call-at row i) Stores-byte
 at-stores row small i =
     cond-both (ltb i (length row / 8)) _ None (λ o. found o Stores-byte)
-    (λ t. of-stores (call-byte row i 0) (call-byte row i 1) (call-byte row i 2) (call-byte row i 3) (call-byte row i 4) (small (8 * i + 4)))
+    (λ t. of-stores (kind-at row i) (getD row (8 * i + 1) 0) (getD row (8 * i + 2) 0) (getD row (8 * i + 3) 0) (getD row (8 * i + 4) 0) (small (8 * i + 4)))
     (λ f. tt)
 
 more-stores : (o : Option Call) (cs : List Call) → found o Stores-byte → Stores-bytes cs → Stores-bytes (listOf o ++ cs)

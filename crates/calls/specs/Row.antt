@@ -24,18 +24,17 @@ abbrev pub call-of : ℕ → ℕ → ℕ → ℕ → ℕ → Option Call
 call-of zero p v q u = None
 call-of (suc k) p v q u = nth (call-table p v q u) k
 
--- byte j of the eight of call i
-abbrev pub call-byte : List ℕ → ℕ → ℕ → ℕ
-call-byte row i j = getD row (8 * i + j) 0
+abbrev pub kind-at : List ℕ → ℕ → ℕ
+kind-at row i = getD row (8 * i) 0
 
 -- Call i of a row, where the row has all of its bytes and its kind is one. The last three bytes are not read.
 abbrev pub call-at : List ℕ → ℕ → Option Call
 call-at row i =
     cond (ltb i (length row / 8))
-    (call-of (call-byte row i 0) (call-byte row i 1) (call-byte row i 2) (call-byte row i 3) (call-byte row i 4))
+    (call-of (kind-at row i) (getD row (8 * i + 1) 0) (getD row (8 * i + 2) 0) (getD row (8 * i + 3) 0) (getD row (8 * i + 4) 0))
     None
 
--- n calls of a row from call i on
+-- n calls of a row from call i on, but for those with a kind that is none
 unfoldable pub calls-from : List ℕ → ℕ → ℕ → List Call
 calls-from row zero i = []
 calls-from row (suc n) i = listOf (call-at row i) ++ calls-from row n (i + 1)
@@ -49,7 +48,7 @@ is-kind k = leb 1 k && leb k 9
 -- of n calls from call i on, the first with a kind that is none
 unfoldable pub unknown-from : List ℕ → ℕ → ℕ → Option Refusal
 unknown-from row zero i = None
-unknown-from row (suc n) i = cond (is-kind (call-byte row i 0)) (unknown-from row n (i + 1)) (Some (Kind i))
+unknown-from row (suc n) i = cond (is-kind (kind-at row i)) (unknown-from row n (i + 1)) (Some (Kind i))
 
 -- the length is looked at before the kinds
 abbrev pub row-refusal : List ℕ → Option Refusal
@@ -78,7 +77,7 @@ Row-says = (row : List ℕ) → row-refusal row ≡ None → (length (calls-of r
 -- a kind that is refused is the first that is none
 abbrev pub Row-refuses-first : Type 0
 Row-refuses-first =
-    (row : List ℕ) (i : ℕ) → row-refusal row ≡ Some (Kind i) → (i < length row / 8) × (is-kind (call-byte row i 0) ≡ false) × ((k : ℕ) → k < i → is-kind (call-byte row k 0) ≡ true)
+    (row : List ℕ) (i : ℕ) → row-refusal row ≡ Some (Kind i) → (i < length row / 8) × (is-kind (kind-at row i) ≡ false) × ((k : ℕ) → k < i → is-kind (kind-at row k) ≡ true)
 
 -- what a row of bytes stores are bytes
 abbrev pub Row-stores : Type 0

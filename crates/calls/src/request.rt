@@ -48,11 +48,9 @@ impl Call {
     pub(crate) fn from_bytes(kind: u8, process: u8, page: u8, third: u8, fourth: u8) -> Option<Call>
         ensures { λ r. ⌜ r ≡ call-of kind process page third fourth ⌝ }
     {
-        let byte = fourth;
         let process = usize::from(process);
         let page = usize::from(page);
         let third = usize::from(third);
-        let fourth = usize::from(fourth);
         match kind {
             1 => Some(Call::Fork { process }),
             2 => Some(Call::Leave { process }),
@@ -63,7 +61,7 @@ impl Call {
                 process,
                 page,
                 from_process: third,
-                from_page: fourth,
+                from_page: usize::from(fourth),
             }),
             7 => Some(Call::Load {
                 process,
@@ -74,7 +72,7 @@ impl Call {
                 process,
                 page,
                 offset: third,
-                byte,
+                byte: fourth,
             }),
             9 => Some(Call::Counts),
             _ => None,

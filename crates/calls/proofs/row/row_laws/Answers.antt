@@ -1,3 +1,4 @@
+-- The laws are lemmas of their own, so that others can cite them.
 use Rattle.calls.proofs.Saying.{row-says, row-refuses-first, row-stores}
 use Rattle.calls.proofs.row.row_laws.Needs as need
 
