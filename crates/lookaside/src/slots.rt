@@ -10,7 +10,7 @@ ghost use Rattle.lookaside.specs.Slots.{find-slot, hits, put-slot, slot-of};
 const SLOTS: usize = 16;
 
 // Page `page` of `process` lies in this frame, and a store needs no copy if `free`.
-#[derive(Clone, Copy, PartialEq, Eq, Debug)]
+#[derive(Clone, Copy, PartialEq, Eq)]
 pub struct Slot {
     pub process: usize,
     pub page: usize,
@@ -18,7 +18,7 @@ pub struct Slot {
     pub free: bool,
 }
 
-#[derive(Clone, Copy, PartialEq, Eq, Debug)]
+#[derive(Clone, Copy)]
 pub struct Lookaside {
     pub slots: [Option<Slot>; 16],
 }

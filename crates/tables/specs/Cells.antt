@@ -1,5 +1,6 @@
 -- What entries mean, with frames and places in one space: frame f is location f, place d is location frames + d. Assumes nothing.
 use mathlib.Core.Bool.{Bool, true, false, cond, _&&_}
+use mathlib.Core.Path.{_≡_}
 use Prim.Native.Nat.{ℕ, _+_, _*_, _/_, _%_, _<_, _≤_}
 use lib.Dec.{eqb, ltb}
 use Rattle.tables.specs.declared.entry.Entry.{Entry}
@@ -99,3 +100,7 @@ mark-shared (segment s) m = m
 
 abbrev pub marked : Cell → Cell
 marked c = record { holds = c .holds; copy = mark-shared (c .holds) (c .copy) }
+
+-- what was coded is read again, whatever sizes it is read with, if it names what is there
+abbrev pub Read-again : Type 0
+Read-again = (z : Limits) (e : Entry) → Within z (e .target) → decoded z (encoded e) ≡ cell (z .frames) e

@@ -2,10 +2,10 @@
 ghost use mathlib.Core.Path.{_≡_};
 ghost use mathlib.Core.Bool.{false};
 ghost use Prim.Native.Nat.{ℕ, _<_};
-ghost use Rattle.tables.specs.Cells.{cell, decoded, encoded, index-of, marked, Within};
+ghost use Rattle.tables.specs.Cells.{cell, decoded, encoded, index-of, marked, Read-again, Within};
 
 // What an entry names.
-#[derive(Clone, Copy, PartialEq, Eq, Debug)]
+#[derive(Clone, Copy, PartialEq, Eq)]
 pub enum Target {
     Absent,
     Zero,
@@ -15,14 +15,14 @@ pub enum Target {
 }
 
 // An entry is what it names, and the mark that a store has to look whether to copy.
-#[derive(Clone, Copy, PartialEq, Eq, Debug)]
+#[derive(Clone, Copy, PartialEq, Eq)]
 pub struct Entry {
     pub target: Target,
     pub copy: bool,
 }
 
 // How many frames, places and segments there are.
-#[derive(Clone, Copy, PartialEq, Eq, Debug)]
+#[derive(Clone, Copy)]
 pub struct Limits {
     pub frames: usize,
     pub places: usize,
@@ -89,3 +89,8 @@ impl Entry {
         }
     }
 }
+
+// An entry that names what is there is read again as it was written.
+pub fn codes_are_read_again()
+    ensures { λ _. ⌜ Read-again ⌝ }
+{}

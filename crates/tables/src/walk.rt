@@ -12,7 +12,7 @@ use crate::entry::Limits;
 use crate::entry::Target;
 use crate::table::read;
 
-#[derive(Clone, Copy, PartialEq, Eq, Debug)]
+#[derive(Clone, Copy, PartialEq, Eq)]
 pub enum Lies {
     Nowhere,
     Zeros,
@@ -21,7 +21,7 @@ pub enum Lies {
 }
 
 // Where a page lies, and whether a store there needs no copy.
-#[derive(Clone, Copy, PartialEq, Eq, Debug)]
+#[derive(Clone, Copy, PartialEq, Eq)]
 pub struct Found {
     pub lies: Lies,
     pub free: bool,
