@@ -1,0 +1,4 @@
+pub mod Cut
+pub mod Lowest
+pub mod Pages
+pub mod Turn

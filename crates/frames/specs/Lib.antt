@@ -1,0 +1,3 @@
+pub mod Cut
+pub mod Counts
+pub mod Turn

@@ -1,0 +1,4 @@
+pub mod Cells
+pub mod Found
+pub mod Rows
+pub mod State
