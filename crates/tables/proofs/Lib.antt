@@ -1,3 +1,4 @@
 pub mod Codes
 pub mod Locations
 pub mod Rows
+pub mod Views

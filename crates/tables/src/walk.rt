@@ -5,7 +5,7 @@ ghost use Prim.Native.Nat.{ℕ, _+_, _*_, _<_, _≤_};
 ghost use lib.ListN.{getD, length};
 ghost use Rattle.tables.specs.Cells.{held-of, none, Within};
 ghost use Rattle.tables.specs.Rows.{cells, entry-of, rows};
-ghost use Rattle.tables.specs.State.{found, walked, walked-segment};
+ghost use Rattle.tables.specs.State.{found, View-laws, walked, walked-segment};
 ghost use Rattle.tables.specs.Found.{Lies-within};
 use crate::entry::Entry;
 use crate::entry::Limits;
@@ -117,3 +117,8 @@ fn at_location(target: Target, limits: Limits) -> Found
         },
     }
 }
+
+// What all lent memory means, and how one changed list changes that: the laws that functions which change several lists are proved by.
+pub fn view_laws()
+    ensures { λ _. ⌜ View-laws ⌝ }
+{}
