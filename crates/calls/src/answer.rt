@@ -1,4 +1,10 @@
 // What a call is answered, and why an opening or a row is refused.
+ghost use mathlib.Core.Path.{_≡_};
+ghost use Rattle.calls.specs.Refusals.{refusal-number, refusal-place};
+ghost use Rattle.calls.specs.Text.{answer-text, refusal-text};
+ghost use Rattle.std.specs.declared.option.Option.the-variants.{Some};
+use std::fmt;
+
 #[derive(Clone, Copy, PartialEq, Eq, Debug)]
 pub enum Answer {
     Done(u64),
@@ -17,4 +23,50 @@ pub enum Refusal {
     Length(usize),
     // a kind that is 0 or above 9: the call's number, from 0
     Kind(usize),
+}
+
+impl Refusal {
+    pub fn number(self) -> usize
+        ensures { λ r. ⌜ r ≡ refusal-number self ⌝ }
+    {
+        match self {
+            Refusal::Size(_) => 1,
+            Refusal::Lent(_) => 2,
+            Refusal::Length(_) => 3,
+            Refusal::Kind(_) => 4,
+        }
+    }
+
+    pub fn place(self) -> usize
+        ensures { λ r. ⌜ r ≡ refusal-place self ⌝ }
+    {
+        match self {
+            Refusal::Size(place) => place,
+            Refusal::Lent(place) => place,
+            Refusal::Length(place) => place,
+            Refusal::Kind(place) => place,
+        }
+    }
+}
+
+pub impl fmt::Display for Answer as AnswerDisplay {
+    ghost shown = { λ a. Some (answer-text a) };
+
+    fn fmt<W: fmt::Write>(&self, f: &mut fmt::Formatter<W>) -> fmt::Result {
+        match *self {
+            Answer::Done(n) => write!(f, "done {n}"),
+            Answer::Fault => f.write_str("fault"),
+            Answer::Full => f.write_str("full"),
+        }
+    }
+}
+
+pub impl fmt::Display for Refusal as RefusalDisplay {
+    ghost shown = { λ e. Some (refusal-text e) };
+
+    fn fmt<W: fmt::Write>(&self, f: &mut fmt::Formatter<W>) -> fmt::Result {
+        let number = self.number();
+        let place = self.place();
+        write!(f, "refused {number} {place}")
+    }
 }

@@ -1,4 +1,8 @@
-// One call. A number that names no process, page or byte of the machine is allowed here, and answered as a fault.
+// One call, and how bytes say it.
+ghost use mathlib.Core.Path.{_≡_};
+ghost use Rattle.calls.specs.Row.{call-of};
+
+// A number that names no process, page or byte of the machine is allowed here, and answered as a fault.
 #[derive(Clone, Copy, PartialEq, Eq, Debug)]
 pub enum Call {
     Fork {
@@ -37,4 +41,43 @@ pub enum Call {
         byte: u8,
     },
     Counts,
+}
+
+impl Call {
+    // third and fourth are the page that is looked at, or the offset and the byte of a load or a store.
+    pub(crate) fn from_bytes(kind: u8, process: u8, page: u8, third: u8, fourth: u8) -> Option<Call>
+        ensures { λ r. ⌜ r ≡ call-of kind process page third fourth ⌝ }
+    {
+        let byte = fourth;
+        let process = usize::from(process);
+        let page = usize::from(page);
+        let third = usize::from(third);
+        let fourth = usize::from(fourth);
+        match kind {
+            1 => Some(Call::Fork { process }),
+            2 => Some(Call::Leave { process }),
+            3 => Some(Call::Map { process, page }),
+            4 => Some(Call::Drop { process, page }),
+            5 => Some(Call::Make { process, page }),
+            6 => Some(Call::Look {
+                process,
+                page,
+                from_process: third,
+                from_page: fourth,
+            }),
+            7 => Some(Call::Load {
+                process,
+                page,
+                offset: third,
+            }),
+            8 => Some(Call::Store {
+                process,
+                page,
+                offset: third,
+                byte,
+            }),
+            9 => Some(Call::Counts),
+            _ => None,
+        }
+    }
 }
