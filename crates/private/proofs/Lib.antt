@@ -1,1 +1,2 @@
 mod Pages
+mod Worlds

@@ -1,1 +1,2 @@
+pub mod See
 pub mod SeePage

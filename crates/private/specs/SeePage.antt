@@ -3,7 +3,7 @@ use mathlib.Core.Path.{_≡_}
 use mathlib.Core.Bool.{Bool}
 use mathlib.Core.List.{List, map}
 use Prim.Native.Nat.{ℕ}
-use lib.ListN.{set, replicate}
+use lib.ListN.{set, getD, replicate}
 use Rattle.std.specs.Of.Vec.{vec-items}
 use Rattle.fold.specs.Fold as fold
 use Rattle.private.specs.declared.page.Page.{Page}
@@ -37,3 +37,7 @@ blank alive n = record { alive = alive; pages = replicate n fold.absent }
 
 abbrev pub put-in : fold.Process → ℕ → fold.Page → fold.Process
 put-in q v x = record { alive = q .alive; pages = set (q .pages) v x }
+
+-- a process after a store to its own page v
+abbrev pub rewritten-in : fold.Process → ℕ → ℕ → ℕ → ℕ → fold.Process
+rewritten-in q v l o x = put-in q v (rewritten l o x (getD (q .pages) v fold.absent))

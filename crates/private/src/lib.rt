@@ -1,6 +1,6 @@
 // The slow machine, written straight from the rules: every process has memory of its own, a fork copies it, and labels only
 // count what has to be held.
-
+mod memory;
 mod page;
 mod process;
 pub mod want;

@@ -4,7 +4,7 @@ ghost use mathlib.Core.Bool.{false, cond};
 ghost use Rattle.std.specs.Of.Vec.{vec-len};
 ghost use Rattle.std.specs.Vec.{made};
 ghost use Rattle.fold.specs.Fold.{over-pages};
-ghost use Rattle.private.specs.SeePage.{see-page, see-process, matching, blank, put-in};
+ghost use Rattle.private.specs.SeePage.{see-page, see-process, matching, blank, put-in, rewritten-in};
 use super::page::Page;
 use super::page::Sought;
 use std::alloc::AllocError;
@@ -74,6 +74,15 @@ impl Process {
         self.alive = false;
         for page in 0..self.pages.len() {
             self.pages[page] = Page::Absent;
+        }
+    }
+
+    // An own page gets a byte and, it may be, another label.
+    pub fn store(&mut self, page: usize, label: u64, offset: usize, byte: u8)
+        ensures { λ _. ⌜ see-process (now (self .exit)) ≡ rewritten-in (see-process (now (self .entry))) page label offset byte ⌝ }
+    {
+        if page < self.pages.len() {
+            self.pages[page].store(label, offset, byte);
         }
     }
 }
