@@ -1,7 +1,7 @@
 -- The memory of the code and the world that it stands for, at one process or segment.
 use mathlib.Core.Logic.{inl, inr}
 use mathlib.Core.Path.{_≡_, refl, sym, ap, _∙_}
-use mathlib.Core.Bool.{true, false, cond}
+use mathlib.Core.Bool.{Bool, true, false, cond}
 use mathlib.Core.List.{List, [], _∷_, map}
 use Prim.Native.Nat.{ℕ, suc, _+_, _<_, _≤_, min}
 use native.Mathlib.Numerals.{add-one}
@@ -15,9 +15,9 @@ use Rattle.std.specs.Changed.{with-item}
 use Rattle.std.specs.declared.alloc.Global.{Global}
 use Rattle.std.specs.declared.vec.Vec.{Vec}
 use Rattle.fold.specs.Fold as fold
-use Rattle.fold.specs.Fold.{process, with-process, with-page, over-all, first-free, first-segment, lookers, page}
-use Rattle.private.specs.See.{see, with-segment, segment-at}
-use Rattle.private.specs.SeePage.{see-page, see-process, put-in}
+use Rattle.fold.specs.Fold.{process, with-process, with-page, over-all, first-free, first-segment, segments-from, lookers, page}
+use Rattle.private.specs.See.{see, with-segment, segment-at, with-byte}
+use Rattle.private.specs.SeePage.{see-page, see-process, put-in, rewritten}
 use Rattle.private.specs.declared.memory.Memory.{Memory}
 use Rattle.private.specs.declared.process.Process.{Process}
 
@@ -111,3 +111,28 @@ unfolding first-segment
 first-segment-on w i s ss e =
     rw add-one
     (cond-false (eqb (lookers w i) 0) 0 (suc (first-segment w (suc i) ss)) (ne-eqb (lookers w i) 0 (λ z. omega (arith, leb-true 1 (lookers w i) e))))
+
+own-there : (b : Bool) (x : fold.Page) (l : ℕ) (ws : List ℕ) → cond b x fold.absent ≡ fold.own l ws → x ≡ fold.own l ws
+own-there true x l ws e = e
+own-there false x l ws e = let z : _≡_ {A = ℕ} 0 1 = cc in absurd (omega arith)
+
+-- a store to a page that is known to be its process's own
+pub with-byte-is : (w : fold.World) (p v l m o x : ℕ) (ws : List ℕ) → page w p v ≡ fold.own l ws → with-byte w p v m o x ≡ with-page w p v (fold.own m (set ws o x))
+unfolding page
+with-byte-is w p v l m o x ws e =
+    ap (λ (y : fold.Page). with-process w p (put-in (process w p) v (rewritten m o x y))) (own-there (process w p .alive) (getD (process w p .pages) v fold.absent) l ws e)
+    ∙ sym (page-is-process w p v (fold.own m (set ws o x)))
+
+pub segments-one-more : (w : fold.World) (i : ℕ) → leb 1 (lookers w i) ≡ true → segments-from w (i + 1) ≡ segments-from w i + 1
+unfolding segments-from
+segments-one-more w i e =
+    let here : cond (eqb (lookers w i) 0) 0 1 + segments-from w i ≡ 1 + segments-from w i =
+    ap (λ b. cond b 0 1 + segments-from w i) (ne-eqb (lookers w i) 0 (λ z. omega (arith, leb-true 1 (lookers w i) e))) in
+    rw add-one (omega arith)
+
+pub segments-no-more : (w : fold.World) (i : ℕ) → leb 1 (lookers w i) ≡ false → segments-from w (i + 1) ≡ segments-from w i
+unfolding segments-from
+segments-no-more w i e =
+    let here : cond (eqb (lookers w i) 0) 0 1 + segments-from w i ≡ 0 + segments-from w i =
+    ap (λ b. cond b 0 1 + segments-from w i) (eq-eqb (lookers w i) 0 (omega (arith, leb-false 1 (lookers w i) e))) in
+    rw add-one (omega arith)
