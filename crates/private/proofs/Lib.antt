@@ -1,0 +1,5 @@
+mod Calls
+mod Counting
+mod Keeps
+mod Pages
+mod Worlds

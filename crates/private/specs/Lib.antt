@@ -1,0 +1,4 @@
+pub mod Called
+pub mod Labelled
+pub mod See
+pub mod SeePage

@@ -1,0 +1,58 @@
+-- What a row of calls prints. Assumes nothing.
+use mathlib.Core.List.{List, [], _++_}
+use Prim.Native.Nat.{ℕ, zero, suc, _+_, _-_, _/_}
+use lib.Chars.{codes}
+use lib.ListN.{length, drop}
+use Rattle.std.specs.Written.{decimal}
+use Rattle.std.specs.declared.option.Option.{Option}
+use Rattle.std.specs.declared.option.Option.the-variants.{Some, None}
+use Rattle.fold.specs.Fold as fold
+use Rattle.calls.specs.Meaning.{Asked, calls, counts, asked, seen-sizes}
+use Rattle.calls.specs.Ranges.{sizes-of, sizes-refusal}
+use Rattle.calls.specs.Row.{call-at, row-refusal}
+use Rattle.calls.specs.Text.{refusal-text}
+use Rattle.calls.specs.declared.answer.Refusal.{Refusal}
+use Rattle.calls.specs.declared.request.Call.{Call}
+use Rattle.calls.specs.declared.sizes.Sizes.{Sizes}
+
+abbrev pub fold-text : fold.Answer → List ℕ
+fold-text (fold.done n) = codes "done " ++ decimal n
+fold-text fold.fault = codes "fault"
+fold-text fold.full = codes "full"
+
+-- the line of call i
+abbrev pub line : ℕ → fold.Answer → List ℕ
+line i a = decimal i ++ (codes " " ++ (fold-text a ++ codes "\n"))
+
+-- the machine has no disk, so its counts are 0
+abbrev pub serve : fold.Sizes → fold.World → Asked → fold.World × fold.Answer
+serve z w (calls k) = fold.call z w k
+serve z w counts = (w, fold.done 0)
+
+-- the line of call i, if there is such a call, and what the world after it prints
+abbrev pub told : fold.Sizes → fold.World → ℕ → Option Call → (fold.World → List ℕ) → List ℕ
+told z w i None rest = rest w
+told z w i (Some c) rest = line i (serve z w (asked c) .1) ++ rest (serve z w (asked c) .0)
+
+-- n lines from call i of a row on
+unfoldable pub lines-from : List ℕ → fold.Sizes → fold.World → ℕ → ℕ → List ℕ
+lines-from row z w zero i = []
+lines-from row z w (suc n) i = told z w i (call-at row i) (λ u. lines-from row z u n (i + 1))
+
+abbrev pub row-text : Sizes → List ℕ → ℕ → List ℕ
+row-text z row n = lines-from row (seen-sizes z) (fold.begin (seen-sizes z) (z .processes - 1)) n 0
+
+-- the first refusal of two
+abbrev pub either-refusal : Option Refusal → Option Refusal → Option Refusal
+either-refusal None later = later
+either-refusal (Some e) later = Some e
+
+abbrev pub unless : Option Refusal → List ℕ → List ℕ
+unless None text = text
+unless (Some e) text = refusal-text e ++ codes "\n"
+
+-- all that is printed: a refusal of the sizes, else one of the row, else a line for each call
+abbrev pub played-text : List ℕ → List ℕ
+played-text input =
+    unless (either-refusal (sizes-refusal (sizes-of input)) (row-refusal (drop 10 input)))
+    (row-text (sizes-of input) (drop 10 input) (length (drop 10 input) / 8))

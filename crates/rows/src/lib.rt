@@ -1,0 +1,85 @@
+// A whole row of calls, from the bytes that say it to the lines that it prints.
+ghost use mathlib.Core.Path.{_≡_};
+ghost use mathlib.Core.List.{_++_};
+ghost use Prim.Native.Nat.{_/_};
+ghost use lib.Chars.{codes};
+ghost use lib.ListN.{length, drop};
+ghost use Rattle.std.specs.Of.String.{string-bytes};
+ghost use Rattle.std.specs.Vec.{made};
+ghost use Rattle.calls.specs.Meaning.{answered};
+ghost use Rattle.calls.specs.Ranges.{sizes-refusal};
+ghost use Rattle.calls.specs.Refusals.{unless-refused};
+ghost use Rattle.calls.specs.Row.{row-refusal};
+ghost use Rattle.calls.specs.Text.{refusal-text};
+ghost use Rattle.rows.specs.Played.{played-text, row-text, either-refusal, line};
+use calls::answer::Answer;
+use calls::answer::AnswerDisplay;
+use calls::answer::Refusal;
+use calls::answer::RefusalDisplay;
+use calls::row;
+use calls::sizes::Sizes;
+use private::machine::Machine;
+use private::want::Want;
+use private::want::WantFromAlloc;
+use std::alloc::AllocError;
+use std::alloc::Global;
+
+// The ten bytes of the sizes stand before the calls.
+const HEAD: usize = 10;
+
+// A line for each call, or the one line of a refusal.
+pub fn played(heap: Global, input: &[u8]) -> Result<String, Want>
+    ensures { λ r. ⌜ made r (λ s. string-bytes s ≡ played-text (now (input .entry))) ⌝ }
+{
+    let sizes = Sizes::from_bytes(input);
+    let calls = after_head(input);
+    match admitted(sizes, calls) {
+        Ok(count) => lines(heap, sizes, calls, count),
+        Err(refusal) => Ok(refusal_line(heap, refusal)?),
+    }
+}
+
+fn after_head(input: &[u8]) -> &[u8]
+    ensures { λ r. ⌜ now r ≡ drop 10 (now (input .entry)) ⌝ }
+{
+    if input.len() < HEAD {
+        &input[0..0]
+    } else {
+        &input[HEAD..]
+    }
+}
+
+// How many calls there are, if nothing is refused.
+fn admitted(sizes: Sizes, calls: &[u8]) -> Result<usize, Refusal>
+    ensures { λ r. ⌜ r ≡ unless-refused (either-refusal (sizes-refusal sizes) (row-refusal (now (calls .entry)))) (length (now (calls .entry)) / 8) ⌝ }
+{
+    sizes.check()?;
+    row::count(calls)
+}
+
+fn refusal_line(heap: Global, refusal: Refusal) -> Result<String, AllocError>
+    ensures { λ r. ⌜ made r (λ s. string-bytes s ≡ refusal-text refusal ++ codes "\n") ⌝ }
+{
+    format!(heap, "{refusal}\n")
+}
+
+fn lines(heap: Global, sizes: Sizes, calls: &[u8], count: usize) -> Result<String, Want>
+    ensures { λ r. ⌜ made r (λ s. string-bytes s ≡ row-text sizes (now (calls .entry)) count) ⌝ }
+{
+    let mut machine = Machine::open(heap, sizes)?;
+    let mut text = String::new(heap);
+    for i in 0..count {
+        if let Some(call) = row::call_at(calls, i) {
+            let answer = machine.call(call)?;
+            add_line(heap, &mut text, i, answer)?;
+        }
+    }
+    Ok(text)
+}
+
+fn add_line(heap: Global, text: &mut String, i: usize, answer: Answer) -> Result<(), AllocError>
+    ensures { λ r. ⌜ made r (λ _. string-bytes (now (text .exit)) ≡ string-bytes (now (text .entry)) ++ line i (answered answer)) ⌝ }
+{
+    let line = format!(heap, "{i} {answer}\n")?;
+    text.push_str(line.as_str())
+}
