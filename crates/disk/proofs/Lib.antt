@@ -1,0 +1,2 @@
+pub mod Relocate
+pub mod Settle
