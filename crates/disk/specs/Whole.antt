@@ -62,10 +62,48 @@ settled frames s hand reads writes slots =
       slots = purged (s .rows) (s .segments) (s .counts) frames slots;
     }
 
--- the page of the frame that is chosen goes out to place d
+-- the hand has come to a frame, and the state is then s
+abbrev pub turned-to : ℕ → Whole → Turned → State → ℕ → ℕ → Whole × Taken
+turned-to frames w t s reads writes =
+    (settled frames (with-used s (t .used)) (t .rest) reads writes (w .slots), record { frame = t .frame; looks = t .looks })
+
+-- the page of the frame that is chosen goes out to place d: one write
 abbrev pub sent-out : Choice → ℕ → ℕ → Whole → Whole × Taken
 sent-out choose frames d w =
-    let t = choose frames (w .hand) (w .state .used) in (
-      settled frames (with-used (gone-out (t .frame) (frames + d) (w .state)) (t .used)) (t .rest) (w .reads) (counted (w .writes)) (w .slots),
-      record { frame = t .frame; looks = t .looks },
-    )
+    let t = choose frames (w .hand) (w .state .used) in
+    turned-to frames w t (gone-out (t .frame) (frames + d) (w .state)) (w .reads) (counted (w .writes))
+
+-- the page of the frame that is chosen and the page in place d change places: one read, one write
+abbrev pub traded : Choice → ℕ → ℕ → Whole → Whole × Taken
+traded choose frames d w =
+    let t = choose frames (w .hand) (w .state .used) in
+    turned-to frames w t (exchanged (t .frame) (frames + d) (w .state)) (counted (w .reads)) (counted (w .writes))
+
+-- the page in place d comes to frame f, which is free: one read
+abbrev pub fetched : ℕ → ℕ → ℕ → Whole → Whole
+fetched frames f d w = settled frames (come-in f (frames + d) (w .state)) (w .hand) (counted (w .reads)) (w .writes) (w .slots)
+
+-- the lowest free frame and the lowest free place
+abbrev pub free-frame : ℕ → Whole → Option ℕ
+free-frame frames w = lowest-free (take frames (w .state .counts))
+
+abbrev pub free-place : ℕ → Whole → Option ℕ
+free-place frames w = lowest-free (drop frames (w .state .counts))
+
+-- A frame for whoever needs one: a free one; else the chosen one, once its page is out; else none.
+abbrev pub taken-by : Choice → ℕ → Whole → Option ℕ → Option ℕ → Whole × Option Taken
+taken-by choose frames w (Some f) place = (w, Some (record { frame = f; looks = 0 }))
+taken-by choose frames w None None = (w, None)
+taken-by choose frames w None (Some d) = (sent-out choose frames d w .0, Some (sent-out choose frames d w .1))
+
+unfoldable pub take-frame : Choice → ℕ → Whole → Whole × Option Taken
+take-frame choose frames w = taken-by choose frames w (free-frame frames w) (free-place frames w)
+
+-- The page in place d comes in: to a free frame; else to the chosen one, whose page goes out first, or else changes places with it.
+abbrev pub brought-by : Choice → ℕ → ℕ → Whole → Option ℕ → Option ℕ → Whole × Taken
+brought-by choose frames d w (Some f) place = (fetched frames f d w, record { frame = f; looks = 0 })
+brought-by choose frames d w None (Some e) = (fetched frames (sent-out choose frames e w .1 .frame) d (sent-out choose frames e w .0), sent-out choose frames e w .1)
+brought-by choose frames d w None None = traded choose frames d w
+
+unfoldable pub bring-in : Choice → ℕ → ℕ → Whole → Whole × Taken
+bring-in choose frames d w = brought-by choose frames d w (free-frame frames w) (free-place frames w)
