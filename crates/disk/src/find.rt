@@ -8,6 +8,7 @@ ghost use Rattle.std.specs.declared.option.Option.{Option};
 ghost use Rattle.frames.specs.Turn.{turn};
 ghost use Rattle.tables.specs.Cells.{Few};
 ghost use Rattle.disk.specs.declared.registers.Taken.{Taken};
+ghost use Rattle.disk.specs.Frames.{None-only-if-full, Taken-is-free};
 ghost use Rattle.disk.specs.Moves.{lent};
 ghost use Rattle.disk.specs.Whole.{bring-in, Exact, fetched, sent-out, take-frame, traded, Whole, whole};
 use crate::moves::move_in;
@@ -317,3 +318,10 @@ pub fn bring_in(
         ),
     }
 }
+
+// Of a frame that was taken, whatever the choice: nobody names it any more. None is given only where nothing is free, and then nothing has
+// changed.
+pub fn taken_frames()
+    ensures free { λ _. ⌜ Taken-is-free ⌝ }
+    ensures none { λ _. ⌜ None-only-if-full ⌝ }
+{}

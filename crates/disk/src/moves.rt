@@ -5,6 +5,7 @@ ghost use Prim.Native.Nat.{ℕ, _+_, _*_, _<_};
 ghost use lib.ListN.{length};
 ghost use Rattle.tables.specs.Cells.{Few};
 ghost use Rattle.tables.specs.State.{view};
+ghost use Rattle.disk.specs.Follows.{Counts-follow, Exchange-keeps-bytes, In-keeps-bytes, Out-keeps-bytes, Segment-follows, Walk-follows};
 ghost use Rattle.disk.specs.Moves.{come-in, exchanged, gone-out, lent, swap-at};
 use frames::memory;
 use tables::entry::Limits;
@@ -101,3 +102,14 @@ pub fn swap_pages(
     table::rename(segments, limits, frame, place);
     swap_counts(frame_counts, place_counts, frame, place);
 }
+
+// What moving pages keeps, whichever frame was chosen: no byte of any page or segment changes, a walk's answer follows its page, and counts stay
+// the number of entries and segments that name the location.
+pub fn moves_keep()
+    ensures walk { λ _. ⌜ Walk-follows ⌝ }
+    ensures segment { λ _. ⌜ Segment-follows ⌝ }
+    ensures out { λ _. ⌜ Out-keeps-bytes ⌝ }
+    ensures inward { λ _. ⌜ In-keeps-bytes ⌝ }
+    ensures exchange { λ _. ⌜ Exchange-keeps-bytes ⌝ }
+    ensures counts { λ _. ⌜ Counts-follow ⌝ }
+{}
