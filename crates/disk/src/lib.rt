@@ -2,3 +2,5 @@
 pub mod find;
 pub mod moves;
 pub mod registers;
+#[cfg(test)]
+mod tests;

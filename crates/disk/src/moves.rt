@@ -1,9 +1,10 @@
 // Two locations change their names, with the bytes, counts and tables that go with them.
 ghost use mathlib.Core.Path.{_≡_};
-ghost use mathlib.Core.List.{List, _++_};
+ghost use mathlib.Core.List.{List, _++_, map};
 ghost use Prim.Native.Nat.{ℕ, _+_, _*_, _<_};
 ghost use lib.ListN.{length};
-ghost use Rattle.tables.specs.Cells.{Few};
+ghost use Rattle.tables.specs.Cells.{Few, renamed};
+ghost use Rattle.tables.specs.Rows.{cells};
 ghost use Rattle.tables.specs.State.{view};
 ghost use Rattle.disk.specs.Follows.{Counts-follow, Exchange-keeps-bytes, In-keeps-bytes, Out-keeps-bytes, Segment-follows, Walk-follows};
 ghost use Rattle.disk.specs.Moves.{come-in, exchanged, gone-out, lent, swap-at};
@@ -20,6 +21,30 @@ fn swap_counts(frame_counts: &mut [u16], place_counts: &mut [u16], frame: usize,
     let count = frame_counts[frame];
     frame_counts[frame] = place_counts[place];
     place_counts[place] = count;
+}
+
+// Every entry and segment that names the frame names the place and the other way round, and the counts go with them.
+fn relocate(
+    table: &mut [u16],
+    segments: &mut [u16],
+    frame_counts: &mut [u16],
+    place_counts: &mut [u16],
+    limits: Limits,
+    frame: usize,
+    place: usize,
+)
+    requires frame_within { ⌜ frame < limits .frames ⌝ }
+    requires place_within { ⌜ place < limits .places ⌝ }
+    requires few { ⌜ Few limits ⌝ }
+    requires frame_counts { ⌜ length (now «frame_counts») ≡ limits .frames ⌝ }
+    requires place_counts { ⌜ length (now «place_counts») ≡ limits .places ⌝ }
+    ensures table { λ _. ⌜ cells limits (now (table .exit)) ≡ map (renamed frame (limits .frames + place)) (cells limits (now (table .entry))) ⌝ }
+    ensures segments { λ _. ⌜ cells limits (now (segments .exit)) ≡ map (renamed frame (limits .frames + place)) (cells limits (now (segments .entry))) ⌝ }
+    ensures counts { λ _. ⌜ now («frame_counts» .exit) ++ now («place_counts» .exit) ≡ swap-at frame (limits .frames + place) 0 (now («frame_counts» .entry) ++ now («place_counts» .entry)) ⌝ }
+{
+    table::rename(table, limits, frame, place);
+    table::rename(segments, limits, frame, place);
+    swap_counts(frame_counts, place_counts, frame, place);
 }
 
 // A page goes out, from its frame to a place that is free.
@@ -44,9 +69,15 @@ pub fn move_out(
     ensures { λ _. ⌜ ((pages processes : ℕ) (lookers used : List ℕ) → view limits pages processes (lent (now (table .exit)) (now (segments .exit)) lookers (now («frame_counts» .exit)) used (now («place_counts» .exit)) (now (frames .entry)) (now (disk .exit))) ≡ gone-out frame (limits .frames + place) (view limits pages processes (lent (now (table .entry)) (now (segments .entry)) lookers (now («frame_counts» .entry)) used (now («place_counts» .entry)) (now (frames .entry)) (now (disk .entry))))) ⌝ }
 {
     memory::copy_across(frames, frame, disk, place);
-    table::rename(table, limits, frame, place);
-    table::rename(segments, limits, frame, place);
-    swap_counts(frame_counts, place_counts, frame, place);
+    relocate(
+        table,
+        segments,
+        frame_counts,
+        place_counts,
+        limits,
+        frame,
+        place,
+    );
 }
 
 // A page comes in, from its place to a frame that is free.
@@ -71,9 +102,15 @@ pub fn move_in(
     ensures { λ _. ⌜ ((pages processes : ℕ) (lookers used : List ℕ) → view limits pages processes (lent (now (table .exit)) (now (segments .exit)) lookers (now («frame_counts» .exit)) used (now («place_counts» .exit)) (now (frames .exit)) (now (disk .entry))) ≡ come-in frame (limits .frames + place) (view limits pages processes (lent (now (table .entry)) (now (segments .entry)) lookers (now («frame_counts» .entry)) used (now («place_counts» .entry)) (now (frames .entry)) (now (disk .entry))))) ⌝ }
 {
     memory::copy_across(disk, place, frames, frame);
-    table::rename(table, limits, frame, place);
-    table::rename(segments, limits, frame, place);
-    swap_counts(frame_counts, place_counts, frame, place);
+    relocate(
+        table,
+        segments,
+        frame_counts,
+        place_counts,
+        limits,
+        frame,
+        place,
+    );
 }
 
 // The page in a frame and the page in a place change places.
@@ -98,9 +135,15 @@ pub fn swap_pages(
     ensures { λ _. ⌜ ((pages processes : ℕ) (lookers used : List ℕ) → view limits pages processes (lent (now (table .exit)) (now (segments .exit)) lookers (now («frame_counts» .exit)) used (now («place_counts» .exit)) (now (frames .exit)) (now (disk .exit))) ≡ exchanged frame (limits .frames + place) (view limits pages processes (lent (now (table .entry)) (now (segments .entry)) lookers (now («frame_counts» .entry)) used (now («place_counts» .entry)) (now (frames .entry)) (now (disk .entry))))) ⌝ }
 {
     memory::exchange(frames, frame, disk, place);
-    table::rename(table, limits, frame, place);
-    table::rename(segments, limits, frame, place);
-    swap_counts(frame_counts, place_counts, frame, place);
+    relocate(
+        table,
+        segments,
+        frame_counts,
+        place_counts,
+        limits,
+        frame,
+        place,
+    );
 }
 
 // What moving pages keeps, whichever frame was chosen: no byte of any page or segment changes, a walk's answer follows its page, and counts stay

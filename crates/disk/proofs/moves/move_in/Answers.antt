@@ -5,7 +5,7 @@ use lib.ListN.{length}
 use Rattle.frames.specs.Cut.{cut}
 use Rattle.frames.proofs.Cut.{cut-length}
 use Rattle.tables.specs.State.{view}
-use Rattle.disk.specs.Moves.{lent, swap-at}
+use Rattle.disk.specs.Moves.{lent}
 use Rattle.disk.proofs.Relocate.{copied-in, relocated-view}
 use Rattle.disk.proofs.moves.move_in.Needs as need
 
@@ -15,15 +15,14 @@ returns c pages processes lookers used =
     let z = c .args .limits in
     let fs = cut 256 (z .frames) (c .args .frames .now) in
     let ds = cut 256 (z .places) (c .args .disk .now) in
-    let counts = c .args .frame-counts .now ++ c .args .place-counts .now in
     let before = lent (c .args .table .now) (c .args .segments .now) lookers (c .args .frame-counts .now) used (c .args .place-counts .now) (c .args .frames .now) (c .args .disk .now) in
-    let after = lent (c .rename .last .table) (c .rename-2 .last .table) lookers (c .swap-counts .last .frame-counts) used (c .swap-counts .last .place-counts) (c .copy-across .last .target) (c .args .disk .now) in
+    let after = lent (c .relocate .last .table) (c .relocate .last .segments) lookers (c .relocate .last .frame-counts) used (c .relocate .last .place-counts) (c .copy-across .last .target) (c .args .disk .now) in
     relocated-view z before after (c .args .frame) (z .frames + c .args .place) pages processes _
     (record {
-      table = c .rename .ensures;
-      segments = c .rename-2 .ensures;
+      table = c .relocate .ensures .table;
+      segments = c .relocate .ensures .segments;
       lookers = refl;
       used = refl;
-      counts = c .swap-counts .ensures ∙ ap (λ n. swap-at (c .args .frame) (n + c .args .place) 0 counts) (c .pre .frame-counts);
+      counts = c .relocate .ensures .counts;
       pages = ap (λ xs. xs ++ ds) (c .copy-across .ensures (z .frames) (z .places) (c .pre .place-within)) ∙ copied-in fs ds (z .frames) (c .args .frame) (c .args .place) [] (cut-length 256 (z .frames) (c .args .frames .now)) (c .pre .frame-within);
     })
