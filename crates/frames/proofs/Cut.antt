@@ -1,13 +1,13 @@
 -- Laws of a flat list as rows, for any length of a row.
 use mathlib.Core.Logic.{_≢_, _⊎_, inl, inr}
 use mathlib.Core.Path.{_≡_, refl, sym, ap, _∙_}
-use mathlib.Core.List.{List, [], _∷_, _++_}
+use mathlib.Core.List.{List, [], _∷_, _++_, map}
 use Prim.Native.Nat.{ℕ, zero, suc, _+_, _*_, _-_, _≤_, _<_}
 use native.Mathlib.Nat.{zero-mul, suc-mul, zero-add, add-comm, add-assoc}
 use native.Mathlib.Omega.{arith}
 use borrow.Rule.Slice.PartMut.{putMid}
 use lib.ListN.{length, take, drop, getD, set}
-use Rattle.std.proofs.shelf.Lists.{length-take, length-drop, length-append, take-at, drop-at, drop-drop, drop-take, take-append-le, drop-append-le, take-set-le, drop-set-lt, drop-set-add, same-lists, getD-take, getD-drop, getD-set-same, getD-set-other, length-set}
+use Rattle.std.proofs.shelf.Lists.{take-map, drop-map, length-take, length-drop, length-append, take-at, drop-at, drop-drop, drop-take, take-append-le, drop-append-le, take-set-le, drop-set-lt, drop-set-add, same-lists, getD-take, getD-drop, getD-set-same, getD-set-other, length-set}
 use Rattle.std.proofs.shelf.Parts.{take-putMid-below}
 use Rattle.std.proofs.shelf.Tests.{cases-eq, cases-lt}
 use Rattle.frames.specs.Cut.{cut, row}
@@ -69,3 +69,9 @@ cut-set w (suc n) xs (suc d) o x h =
     let k : suc d * w + o ≡ w + (d * w + o) = omega (arith, suc-mul d w) in
     cons (take-set-le w xs (suc d * w + o) x (omega arith))
     (ap (λ i. cut w n (drop w (set xs i x))) k ∙ ap (cut w n) (drop-set-add w xs (d * w + o) x) ∙ cut-set w n (drop w xs) d o x h)
+
+-- a function of every element, row by row
+pub cut-map : {X Y : Type 0} (f : X → Y) (w n : ℕ) (xs : List X) → cut w n (map f xs) ≡ map (map f) (cut w n xs)
+unfolding cut
+cut-map f w zero xs = refl
+cut-map f w (suc n) xs = cons (take-map f w xs) (ap (cut w n) (drop-map f w xs) ∙ cut-map f w n (drop w xs))

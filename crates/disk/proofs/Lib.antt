@@ -1,0 +1,4 @@
+pub mod Follows
+pub mod Relocate
+pub mod Settle
+pub mod Taking

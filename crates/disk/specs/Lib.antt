@@ -1,0 +1,5 @@
+pub mod Counted
+pub mod Follows
+pub mod Frames
+pub mod Moves
+pub mod Whole
