@@ -16,7 +16,7 @@ use calls::answer::Answer;
 use calls::sizes::Sizes;
 
 impl Memory {
-    pub fn living(&self, process: usize) -> Option<&Process>
+    pub(crate) fn living(&self, process: usize) -> Option<&Process>
         ensures { λ r. ⌜ Cases r (alive-at (see (now (self .entry))) process ≡ false) (λ q. (see-process (now q) ≡ process-seen (see (now (self .entry))) process) × (alive-at (see (now (self .entry))) process ≡ true)) ⌝ }
     {
         if !self.is_alive(process) || process >= self.processes.len() {
@@ -26,20 +26,20 @@ impl Memory {
     }
 
     // Whether a process is there and may have a page of that number.
-    pub fn is_inside(&self, sizes: Sizes, process: usize, page: usize) -> bool
+    pub(crate) fn is_inside(&self, sizes: Sizes, process: usize, page: usize) -> bool
         ensures { λ r. ⌜ r ≡ inside-at sizes (see (now (self .entry))) process page ⌝ }
     {
         self.is_alive(process) && page < sizes.pages
     }
 
     // Whether it may have that page, and a page has that byte.
-    pub fn reaches(&self, sizes: Sizes, process: usize, page: usize, offset: usize) -> bool
+    pub(crate) fn reaches(&self, sizes: Sizes, process: usize, page: usize, offset: usize) -> bool
         ensures { λ r. ⌜ r ≡ reached-at sizes (see (now (self .entry))) process page offset ⌝ }
     {
         self.is_inside(sizes, process, page) && offset < BYTES
     }
 
-    pub fn has_page(&self, process: usize, page: usize) -> bool
+    pub(crate) fn has_page(&self, process: usize, page: usize) -> bool
         ensures { λ r. ⌜ r ≡ there (page-at (see (now (self .entry))) process page) ⌝ }
     {
         match self.page(process, page) {
@@ -48,27 +48,27 @@ impl Memory {
         }
     }
 
-    pub fn is_free(&self, sizes: Sizes, process: usize, page: usize) -> bool
+    pub(crate) fn is_free(&self, sizes: Sizes, process: usize, page: usize) -> bool
         ensures { λ r. ⌜ r ≡ free-at sizes (see (now (self .entry))) process page ⌝ }
     {
         self.is_inside(sizes, process, page) && !self.has_page(process, page)
     }
 
-    pub fn is_used(&self, sizes: Sizes, process: usize, page: usize) -> bool
+    pub(crate) fn is_used(&self, sizes: Sizes, process: usize, page: usize) -> bool
         ensures { λ r. ⌜ r ≡ used-at sizes (see (now (self .entry))) process page ⌝ }
     {
         self.is_inside(sizes, process, page) && self.has_page(process, page)
     }
 
     // Whether a page of that label is not the only one, or is a page of zeros that nobody has stored to.
-    pub fn shares(&self, label: u64) -> bool
+    pub(crate) fn shares(&self, label: u64) -> bool
         ensures { λ r. ⌜ r ≡ shared-at (see (now (self .entry))) label ⌝ }
     {
         label == 0 || self.has(2, Sought::Labelled(label))
     }
 
     // A byte of a segment, or 0 past its end.
-    pub fn segment_byte(&self, segment: usize, offset: usize) -> u8
+    pub(crate) fn segment_byte(&self, segment: usize, offset: usize) -> u8
         ensures { λ r. ⌜ r ≡ getD (segment-at (see (now (self .entry))) segment) offset 0 ⌝ }
     {
         if segment < self.segments.len() {
@@ -78,7 +78,7 @@ impl Memory {
         }
     }
 
-    pub fn load(&self, sizes: Sizes, process: usize, page: usize, offset: usize) -> Answer
+    pub(crate) fn load(&self, sizes: Sizes, process: usize, page: usize, offset: usize) -> Answer
         ensures { λ r. ⌜ answered r ≡ load-at sizes process page offset (see (now (self .entry))) ⌝ }
     {
         if !self.reaches(sizes, process, page, offset) {

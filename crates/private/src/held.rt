@@ -49,7 +49,7 @@ impl Memory {
         Ok(distinct(labels.as_slice()) as u128 + self.held_segments() as u128)
     }
 
-    pub fn is_full(&self, sizes: Sizes) -> Result<bool, AllocError>
+    pub(crate) fn is_full(&self, sizes: Sizes) -> Result<bool, AllocError>
         requires { ⌜ Labels (see (now self)) ⌝ }
         ensures { λ r. ⌜ made r (λ b. b ≡ full-at sizes (see (now (self .entry)))) ⌝ }
     {

@@ -22,14 +22,14 @@ pub struct Memory {
 }
 
 impl Memory {
-    pub fn is_alive(&self, process: usize) -> bool
+    pub(crate) fn is_alive(&self, process: usize) -> bool
         ensures { λ r. ⌜ r ≡ alive-at (see (now (self .entry))) process ⌝ }
     {
         process < self.processes.len() && self.processes[process].alive
     }
 
     // None for what no process has; a page may also be there and absent.
-    pub fn page(&self, process: usize, page: usize) -> Option<&Page>
+    pub(crate) fn page(&self, process: usize, page: usize) -> Option<&Page>
         ensures { λ r. ⌜ Cases r (page-at (see (now (self .entry))) process page ≡ absent) (λ x. page-at (see (now (self .entry))) process page ≡ see-page (now x)) ⌝ }
     {
         if process >= self.processes.len() {
@@ -43,7 +43,7 @@ impl Memory {
     }
 
     // Whether at least so many pages are sought.
-    pub fn has(&self, wanted: usize, sought: Sought) -> bool
+    pub(crate) fn has(&self, wanted: usize, sought: Sought) -> bool
         ensures { λ r. ⌜ r ≡ leb wanted (found sought (see (now (self .entry)))) ⌝ }
     {
         let mut count: usize = 0;
@@ -54,7 +54,7 @@ impl Memory {
     }
 
     // The lowest process that is not there, or how many there are.
-    pub fn free_process(&self) -> usize
+    pub(crate) fn free_process(&self) -> usize
         ensures { λ r. ⌜ r ≡ free-process (see (now (self .entry))) ⌝ }
     {
         for (i, process) in self.processes.iter().enumerate() {
@@ -66,7 +66,7 @@ impl Memory {
     }
 
     // The lowest segment that nobody looks at, or how many there are.
-    pub fn free_segment(&self) -> usize
+    pub(crate) fn free_segment(&self) -> usize
         ensures { λ r. ⌜ r ≡ free-segment (see (now (self .entry))) ⌝ }
     {
         for i in 0..self.segments.len() {
@@ -77,7 +77,7 @@ impl Memory {
         self.segments.len()
     }
 
-    pub fn put_page(&mut self, process: usize, page: usize, new: Page)
+    pub(crate) fn put_page(&mut self, process: usize, page: usize, new: Page)
         ensures { λ _. ⌜ see (now (self .exit)) ≡ with-page (see (now (self .entry))) process page (see-page new) ⌝ }
     {
         if process < self.processes.len() {
@@ -85,7 +85,7 @@ impl Memory {
         }
     }
 
-    pub fn put_process(&mut self, process: usize, new: Process)
+    pub(crate) fn put_process(&mut self, process: usize, new: Process)
         ensures { λ _. ⌜ see (now (self .exit)) ≡ with-process (see (now (self .entry))) process (see-process new) ⌝ }
     {
         if process < self.processes.len() {
@@ -93,7 +93,7 @@ impl Memory {
         }
     }
 
-    pub fn put_segment(&mut self, segment: usize, new: Vec<u8>)
+    pub(crate) fn put_segment(&mut self, segment: usize, new: Vec<u8>)
         ensures { λ _. ⌜ see (now (self .exit)) ≡ with-segment (see (now (self .entry))) segment (vec-items new) ⌝ }
     {
         if segment < self.segments.len() {
@@ -102,7 +102,7 @@ impl Memory {
     }
 
     // A process leaves, and its pages with it.
-    pub fn leave(&mut self, process: usize)
+    pub(crate) fn leave(&mut self, process: usize)
         ensures { λ _. ⌜ see (now (self .exit)) ≡ with-process (see (now (self .entry))) process (emptied (see (now (self .entry))) process) ⌝ }
     {
         if process < self.processes.len() {
@@ -111,7 +111,14 @@ impl Memory {
     }
 
     // An own page gets a byte and, it may be, another label.
-    pub fn put_byte(&mut self, process: usize, page: usize, label: u64, offset: usize, byte: u8)
+    pub(crate) fn put_byte(
+        &mut self,
+        process: usize,
+        page: usize,
+        label: u64,
+        offset: usize,
+        byte: u8,
+    )
         ensures { λ _. ⌜ see (now (self .exit)) ≡ with-byte (see (now (self .entry))) process page label offset byte ⌝ }
     {
         if process < self.processes.len() {
@@ -119,7 +126,7 @@ impl Memory {
         }
     }
 
-    pub fn put_segment_byte(&mut self, segment: usize, offset: usize, byte: u8)
+    pub(crate) fn put_segment_byte(&mut self, segment: usize, offset: usize, byte: u8)
         ensures { λ _. ⌜ see (now (self .exit)) ≡ with-segment (see (now (self .entry))) segment (set (segment-at (see (now (self .entry))) segment) offset byte) ⌝ }
     {
         if segment < self.segments.len() {

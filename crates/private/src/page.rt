@@ -29,14 +29,14 @@ pub enum Sought {
 }
 
 // The bytes of a new page.
-pub fn zeros(heap: Global) -> Result<Vec<u8>, AllocError>
+pub(crate) fn zeros(heap: Global) -> Result<Vec<u8>, AllocError>
     ensures { λ r. ⌜ made r (λ v. vec-items v ≡ replicate 256 0) ⌝ }
 {
     Vec::from_elem(heap, 0, BYTES)
 }
 
 impl Page {
-    pub fn is_there(&self) -> bool
+    pub(crate) fn is_there(&self) -> bool
         ensures { λ r. ⌜ r ≡ there (see-page (now (self .entry))) ⌝ }
     {
         match self {
@@ -45,7 +45,7 @@ impl Page {
         }
     }
 
-    pub fn is_sought(&self, sought: Sought) -> bool
+    pub(crate) fn is_sought(&self, sought: Sought) -> bool
         ensures { λ r. ⌜ matching sought (see-page (now (self .entry))) ≡ cond r 1 0 ⌝ }
     {
         match sought {
@@ -61,7 +61,7 @@ impl Page {
     }
 
     // The same page with bytes of its own.
-    pub fn copied(&self, heap: Global) -> Result<Page, AllocError>
+    pub(crate) fn copied(&self, heap: Global) -> Result<Page, AllocError>
         ensures { λ r. ⌜ made r (λ p. see-page p ≡ see-page (now (self .entry))) ⌝ }
     {
         match self {
@@ -76,7 +76,7 @@ impl Page {
     }
 
     // An own page gets a byte and, it may be, another label. Any other page stays.
-    pub fn store(&mut self, new_label: u64, offset: usize, byte: u8)
+    pub(crate) fn store(&mut self, new_label: u64, offset: usize, byte: u8)
         ensures { λ _. ⌜ see-page (now (self .exit)) ≡ rewritten «new_label» offset byte (see-page (now (self .entry))) ⌝ }
     {
         if let Page::Own { label, bytes } = self {

@@ -18,7 +18,7 @@ pub struct Process {
 
 impl Process {
     // One with room for `count` pages, and none there.
-    pub fn empty(heap: Global, alive: bool, count: usize) -> Result<Process, AllocError>
+    pub(crate) fn empty(heap: Global, alive: bool, count: usize) -> Result<Process, AllocError>
         ensures { λ r. ⌜ made r (λ q. see-process q ≡ blank alive count) ⌝ }
     {
         let mut pages = Vec::with_capacity(heap, count)?;
@@ -29,7 +29,7 @@ impl Process {
     }
 
     // The same process with pages of its own.
-    pub fn copied(&self, heap: Global) -> Result<Process, AllocError>
+    pub(crate) fn copied(&self, heap: Global) -> Result<Process, AllocError>
         ensures { λ r. ⌜ made r (λ q. see-process q ≡ see-process (now (self .entry))) ⌝ }
     {
         let mut pages = Vec::with_capacity(heap, self.pages.len())?;
@@ -43,7 +43,7 @@ impl Process {
     }
 
     // How many of its pages are sought, if it is there.
-    pub fn count(&self, sought: Sought) -> usize
+    pub(crate) fn count(&self, sought: Sought) -> usize
         ensures { λ r. ⌜ r ≡ cond (now (self .entry) .alive) (over-pages (matching sought) (see-process (now (self .entry)) .pages)) 0 ⌝ }
     {
         if !self.alive {
@@ -59,7 +59,7 @@ impl Process {
     }
 
     // Past its pages nothing is put.
-    pub fn put(&mut self, page: usize, new: Page)
+    pub(crate) fn put(&mut self, page: usize, new: Page)
         ensures { λ _. ⌜ see-process (now (self .exit)) ≡ put-in (see-process (now (self .entry))) page (see-page new) ⌝ }
     {
         if page < self.pages.len() {
@@ -68,7 +68,7 @@ impl Process {
     }
 
     // It leaves: no page stays.
-    pub fn leave(&mut self)
+    pub(crate) fn leave(&mut self)
         ensures { λ _. ⌜ see-process (now (self .exit)) ≡ blank false (vec-len (now (self .entry) .pages)) ⌝ }
     {
         self.alive = false;
@@ -78,7 +78,7 @@ impl Process {
     }
 
     // An own page gets a byte and, it may be, another label.
-    pub fn store(&mut self, page: usize, label: u64, offset: usize, byte: u8)
+    pub(crate) fn store(&mut self, page: usize, label: u64, offset: usize, byte: u8)
         ensures { λ _. ⌜ see-process (now (self .exit)) ≡ rewritten-in (see-process (now (self .entry))) page label offset byte ⌝ }
     {
         if page < self.pages.len() {

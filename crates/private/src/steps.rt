@@ -10,7 +10,7 @@ use calls::answer::Answer;
 use calls::sizes::Sizes;
 
 impl Memory {
-    pub fn fork(&mut self, sizes: Sizes, process: usize) -> Result<Answer, Want>
+    pub(crate) fn fork(&mut self, sizes: Sizes, process: usize) -> Result<Answer, Want>
         ensures { λ r. ⌜ Forks sizes process (see (now (self .entry))) r (see (now (self .exit))) ⌝ }
     {
         let Some(parent) = self.living(process) else {
@@ -25,7 +25,7 @@ impl Memory {
         Ok(Answer::Done(child as u64))
     }
 
-    pub fn go(&mut self, sizes: Sizes, process: usize) -> Answer
+    pub(crate) fn go(&mut self, sizes: Sizes, process: usize) -> Answer
         requires { ⌜ Rows sizes (see (now self)) ⌝ }
         ensures { λ r. ⌜ Leaves sizes process (see (now (self .entry))) (Ok r) (see (now (self .exit))) ⌝ }
     {
@@ -36,7 +36,7 @@ impl Memory {
         Answer::Done(0)
     }
 
-    pub fn map(&mut self, sizes: Sizes, process: usize, page: usize) -> Result<Answer, Want>
+    pub(crate) fn map(&mut self, sizes: Sizes, process: usize, page: usize) -> Result<Answer, Want>
         ensures { λ r. ⌜ Maps sizes process page (see (now (self .entry))) r (see (now (self .exit))) ⌝ }
     {
         if !self.is_free(sizes, process, page) {
@@ -47,7 +47,7 @@ impl Memory {
         Ok(Answer::Done(0))
     }
 
-    pub fn drop_page(&mut self, sizes: Sizes, process: usize, page: usize) -> Answer
+    pub(crate) fn drop_page(&mut self, sizes: Sizes, process: usize, page: usize) -> Answer
         ensures { λ r. ⌜ Drops sizes process page (see (now (self .entry))) (Ok r) (see (now (self .exit))) ⌝ }
     {
         if !self.is_used(sizes, process, page) {
@@ -57,7 +57,7 @@ impl Memory {
         Answer::Done(0)
     }
 
-    pub fn make(&mut self, sizes: Sizes, process: usize, page: usize) -> Result<Answer, Want>
+    pub(crate) fn make(&mut self, sizes: Sizes, process: usize, page: usize) -> Result<Answer, Want>
         requires { ⌜ Labels (see (now self)) ⌝ }
         ensures { λ r. ⌜ Shares sizes process page (see (now (self .entry))) r (see (now (self .exit))) ⌝ }
     {
@@ -77,7 +77,7 @@ impl Memory {
         Ok(Answer::Done(segment as u64))
     }
 
-    pub fn look(
+    pub(crate) fn look(
         &mut self,
         sizes: Sizes,
         process: usize,
@@ -107,7 +107,7 @@ impl Memory {
         }
     }
 
-    pub fn store(
+    pub(crate) fn store(
         &mut self,
         sizes: Sizes,
         process: usize,
