@@ -1,1 +1,2 @@
+pub mod Anew
 pub mod Stores

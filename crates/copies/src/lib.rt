@@ -1,2 +1,3 @@
 // Copies at a store: where a page is shared, or is the page of zeros that nobody holds, a store makes a page of its own first.
+pub mod anew;
 pub mod stores;
