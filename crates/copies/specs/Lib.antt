@@ -1,2 +1,3 @@
 pub mod Anew
+pub mod Own
 pub mod Stores
