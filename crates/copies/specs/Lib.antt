@@ -1,3 +1,4 @@
 pub mod Anew
+pub mod Laws
 pub mod Own
 pub mod Stores

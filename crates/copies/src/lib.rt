@@ -2,3 +2,5 @@
 pub mod anew;
 pub mod own;
 pub mod stores;
+#[cfg(test)]
+mod tests;

@@ -11,6 +11,7 @@ ghost use Rattle.tables.specs.Rows.{entry-of, rows};
 ghost use Rattle.disk.specs.Moves.{lent};
 ghost use Rattle.disk.specs.Whole.{Exact, Whole, whole};
 ghost use Rattle.copies.specs.declared.anew.Written.{Written};
+ghost use Rattle.copies.specs.Laws.{Full-when-used-up, Says-copied};
 ghost use Rattle.copies.specs.Own.{alone-by, must-copy, stored-own};
 use crate::anew::Written;
 use crate::anew::store_anew;
@@ -191,3 +192,10 @@ pub fn store(
         )
     }
 }
+
+// Of every store to an own page, whatever the choice of the frame: one that has to copy is full exactly where no frame and no place is free, and then nothing
+// has changed; one that is done says whether it copied.
+pub fn store_laws()
+    ensures full { λ _. ⌜ Full-when-used-up ⌝ }
+    ensures says { λ _. ⌜ Says-copied ⌝ }
+{}

@@ -4,9 +4,12 @@ ghost use mathlib.Core.List.{List};
 ghost use Prim.Native.Nat.{ℕ, _+_, _*_, _<_, _≤_};
 ghost use lib.ListN.{length};
 ghost use Rattle.tables.specs.Cells.{Few};
+ghost use Rattle.frames.specs.Counts.{counted-up};
+ghost use Rattle.tables.specs.declared.entry.Limits.{Limits};
+ghost use Rattle.tables.specs.Rows.{rows, with-entry};
 ghost use Rattle.tables.specs.State.{view};
 ghost use Rattle.disk.specs.Moves.{lent};
-ghost use Rattle.copies.specs.Stores.{copy-stored, first-stored, stored-in-place};
+ghost use Rattle.copies.specs.Stores.{copy-stored, first-stored, own-cell, stored-in-place};
 use frames::counts::count_down;
 use frames::counts::count_up;
 use frames::memory;
@@ -14,6 +17,35 @@ use tables::entry::Entry;
 use tables::entry::Limits;
 use tables::entry::Target;
 use tables::table;
+
+// The page is in this frame now, which one more entry names: nobody else gets the frame.
+fn attach(
+    table: &mut [u16],
+    frame_counts: &mut [u16],
+    pages: usize,
+    process: usize,
+    page: usize,
+    frame: usize,
+)
+    requires inside { ⌜ page < pages ⌝ }
+    requires long { ⌜ process * pages + pages ≤ length (now table) ⌝ }
+    requires small { ⌜ frame < 1024 ⌝ }
+    requires counts { ⌜ frame < length (now «frame_counts») ⌝ }
+    ensures rows { λ _. ⌜ ((z : Limits) (n : ℕ) → frame < z .frames → rows z pages n (now (table .exit)) ≡ with-entry (rows z pages n (now (table .entry))) process page (own-cell frame)) ⌝ }
+    ensures counts { λ _. ⌜ now («frame_counts» .exit) ≡ counted-up (now («frame_counts» .entry)) frame ⌝ }
+{
+    count_up(frame_counts, frame);
+    table::write(
+        table,
+        pages,
+        process,
+        page,
+        Entry {
+            target: Target::Frame(frame),
+            copy: false,
+        },
+    );
+}
 
 // The first store to a page of zeros. The frame was free.
 pub fn first_store(
@@ -39,17 +71,7 @@ pub fn first_store(
 {
     memory::clear(frames, frame);
     memory::store(frames, frame, offset, byte);
-    count_up(frame_counts, frame);
-    table::write(
-        table,
-        pages,
-        process,
-        page,
-        Entry {
-            target: Target::Frame(frame),
-            copy: false,
-        },
-    );
+    attach(table, frame_counts, pages, process, page, frame);
 }
 
 // A store to a copy of a page that lies in a frame and that others have too. The frame of the copy was free.
@@ -79,17 +101,7 @@ pub fn copy_from_frame(
     memory::copy(frames, source, frame);
     memory::store(frames, frame, offset, byte);
     count_down(frame_counts, source);
-    count_up(frame_counts, frame);
-    table::write(
-        table,
-        pages,
-        process,
-        page,
-        Entry {
-            target: Target::Frame(frame),
-            copy: false,
-        },
-    );
+    attach(table, frame_counts, pages, process, page, frame);
 }
 
 // A store to a copy of a page that lies on the disk and that others have too: it is read straight into the frame of the copy, and stays.
@@ -123,17 +135,7 @@ pub fn copy_from_place(
     memory::copy_across(disk, source, frames, frame);
     memory::store(frames, frame, offset, byte);
     count_down(place_counts, source);
-    count_up(frame_counts, frame);
-    table::write(
-        table,
-        pages,
-        process,
-        page,
-        Entry {
-            target: Target::Frame(frame),
-            copy: false,
-        },
-    );
+    attach(table, frame_counts, pages, process, page, frame);
 }
 
 // A store where nobody else has the page. A mark that is still there from a time when somebody had it is cleared.

@@ -24,10 +24,10 @@ returns c processes segments lookers used places disk h =
     let fs = cut 256 (z .frames) (c .args .frames .now) in
     let ds = cut 256 (z .places) disk in
     let long : length fs ≡ z .frames = cut-length 256 (z .frames) (c .args .frames .now) in
-    let rows = c .write .ensures z processes (c .pre .frame-within) in
+    let rows = c .attach .ensures .rows z processes (c .pre .frame-within) in
     let lowered : length (counted-down counts-now x) ≡ z .frames = length-set counts-now x _ ∙ c .pre .frame-counts in
     let counts =
-    ap (λ xs. xs ++ places) (c .count-up .ensures ∙ ap (λ cs. counted-up cs f) (c .count-down .ensures)) ∙ up-frame (counted-down counts-now x) places (z .frames) lowered f (c .pre .frame-within)
+    ap (λ xs. xs ++ places) (c .attach .ensures .counts ∙ ap (λ cs. counted-up cs f) (c .count-down .ensures)) ∙ up-frame (counted-down counts-now x) places (z .frames) lowered f (c .pre .frame-within)
     ∙ ap (λ cs. counted-up cs f) (down-frame counts-now places (z .frames) (c .pre .frame-counts) x (c .pre .source-within)) in
     let bytes =
     c .store .ensures (z .frames) ∙ ap (λ ps. stored ps f (c .args .offset) (c .args .byte)) (c .copy .ensures (z .frames) (c .pre .source-within))

@@ -25,9 +25,9 @@ returns c processes segments lookers used h =
     let fs = cut 256 (z .frames) (c .args .frames .now) in
     let ds = cut 256 (z .places) (c .args .disk .now) in
     let long : length fs ≡ z .frames = cut-length 256 (z .frames) (c .args .frames .now) in
-    let rows = c .write .ensures z processes (c .pre .frame-within) in
+    let rows = c .attach .ensures .rows z processes (c .pre .frame-within) in
     let counts =
-    (λ i. c .count-up .ensures i ++ c .count-down .ensures i) ∙ up-frame counts-now (counted-down places-now x) (z .frames) (c .pre .frame-counts) f (c .pre .frame-within)
+    (λ i. c .attach .ensures .counts i ++ c .count-down .ensures i) ∙ up-frame counts-now (counted-down places-now x) (z .frames) (c .pre .frame-counts) f (c .pre .frame-within)
     ∙ ap (λ cs. counted-up cs f) (down-place counts-now places-now (z .frames) (c .pre .frame-counts) x) in
     let bytes =
     c .store .ensures (z .frames) ∙ ap (λ ps. stored ps f (c .args .offset) (c .args .byte)) (c .copy-across .ensures (z .frames) (z .places) (c .pre .source-within))

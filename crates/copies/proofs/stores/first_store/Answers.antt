@@ -20,8 +20,8 @@ returns c processes segments lookers used places disk h =
     let fs = cut 256 (z .frames) (c .args .frames .now) in
     let ds = cut 256 (z .places) disk in
     let long : length fs ≡ z .frames = cut-length 256 (z .frames) (c .args .frames .now) in
-    let rows = c .write .ensures z processes (c .pre .frame-within) in
-    let counts = ap (λ xs. xs ++ places) (c .count-up .ensures) ∙ up-frame (c .args .frame-counts .now) places (z .frames) (c .pre .frame-counts) f (c .pre .frame-within) in
+    let rows = c .attach .ensures .rows z processes (c .pre .frame-within) in
+    let counts = ap (λ xs. xs ++ places) (c .attach .ensures .counts) ∙ up-frame (c .args .frame-counts .now) places (z .frames) (c .pre .frame-counts) f (c .pre .frame-within) in
     let bytes =
     c .store .ensures (z .frames) ∙ ap (λ ps. stored ps f (c .args .offset) (c .args .byte)) (c .clear .ensures (z .frames))
     ∙ put-then-store fs f (c .args .offset) (c .args .byte) (replicate 256 0) (omega (arith, c .pre .frame-within)) in
