@@ -1,0 +1,2 @@
+// Segments: pages that several processes look at on purpose; and the dropping of a page of any kind.
+pub mod release;
