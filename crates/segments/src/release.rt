@@ -17,7 +17,7 @@ use tables::entry::Target;
 use tables::table;
 
 // Writes where a segment lies.
-fn put_segment(segments: &mut [u16], segment: usize, entry: Entry)
+pub(crate) fn put_segment(segments: &mut [u16], segment: usize, entry: Entry)
     requires within { ⌜ segment < length (now segments) ⌝ }
     requires small { ⌜ index-of (entry .target) < 1024 ⌝ }
     ensures { λ _. ⌜ ((z : Limits) → Within z (entry .target) → cells z (now (segments .exit)) ≡ set (cells z (now (segments .entry))) segment (cell (z .frames) entry)) ⌝ }
