@@ -1,2 +1,3 @@
 pub mod Make
+pub mod Reach
 pub mod Release

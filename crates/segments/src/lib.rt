@@ -1,3 +1,4 @@
 // Segments: pages that several processes look at on purpose; and the dropping of a page of any kind.
 pub mod make;
+pub mod reach;
 pub mod release;
