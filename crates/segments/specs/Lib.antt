@@ -1,3 +1,4 @@
+pub mod Full
 pub mod Make
 pub mod Reach
 pub mod Release

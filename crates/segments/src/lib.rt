@@ -2,3 +2,5 @@
 pub mod make;
 pub mod reach;
 pub mod release;
+#[cfg(test)]
+mod tests;

@@ -11,6 +11,7 @@ ghost use Rattle.tables.specs.State.{view};
 ghost use Rattle.disk.specs.Moves.{lent};
 ghost use Rattle.disk.specs.Whole.{Exact, Whole, whole};
 ghost use Rattle.segments.specs.declared.make.Made.{Made};
+ghost use Rattle.segments.specs.Full.{Make-full-exactly};
 ghost use Rattle.segments.specs.Make.{made-in, make-of, make-segment};
 use crate::release::look;
 use crate::release::put_segment;
@@ -196,3 +197,9 @@ pub fn make(
         ),
     }
 }
+
+// Of every make, whatever the choice of the frame: it is full exactly where every segment is looked at or no frame and no place is free, and then nothing has
+// changed.
+pub fn make_laws()
+    ensures { λ _. ⌜ Make-full-exactly ⌝ }
+{}
