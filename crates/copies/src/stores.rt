@@ -48,7 +48,7 @@ fn attach(
 }
 
 // The first store to a page of zeros. The frame was free.
-pub fn first_store(
+pub(crate) fn first_store(
     table: &mut [u16],
     frame_counts: &mut [u16],
     frames: &mut [u8],
@@ -75,7 +75,7 @@ pub fn first_store(
 }
 
 // A store to a copy of a page that lies in a frame and that others have too. The frame of the copy was free.
-pub fn copy_from_frame(
+pub(crate) fn copy_from_frame(
     table: &mut [u16],
     frame_counts: &mut [u16],
     frames: &mut [u8],
@@ -105,7 +105,7 @@ pub fn copy_from_frame(
 }
 
 // A store to a copy of a page that lies on the disk and that others have too: it is read straight into the frame of the copy, and stays.
-pub fn copy_from_place(
+pub(crate) fn copy_from_place(
     table: &mut [u16],
     frame_counts: &mut [u16],
     place_counts: &mut [u16],
@@ -139,7 +139,7 @@ pub fn copy_from_place(
 }
 
 // A store where nobody else has the page. A mark that is still there from a time when somebody had it is cleared.
-pub fn store_in_place(
+pub(crate) fn store_in_place(
     table: &mut [u16],
     frames: &mut [u8],
     limits: Limits,
