@@ -1,5 +1,3 @@
-pub mod Meaning
-pub mod Ranges
-pub mod Refusals
-pub mod Row
-pub mod Text
+pub mod Calls
+pub mod Machine
+pub mod Pages

@@ -12,9 +12,9 @@ use Rattle.std.proofs.shelf.Lists.{getD-set-same, getD-set-other, set-past, len
 use Rattle.std.proofs.shelf.Tests.{cases-eq, cases-lt, cases-bool, false≢true}
 use Rattle.std.specs.declared.result.Result.{Result}
 use Rattle.std.specs.declared.result.Result.the-variants.{Ok, Err}
-use Rattle.calls.specs.Meaning.{seen-sizes}
-use Rattle.calls.specs.declared.answer.Answer.{Answer}
-use Rattle.calls.specs.declared.sizes.Sizes.{Sizes}
+use Rattle.requests.specs.Meaning.{seen-sizes}
+use Rattle.requests.specs.declared.answer.Answer.{Answer}
+use Rattle.requests.specs.declared.sizes.Sizes.{Sizes}
 use Rattle.fold.specs.Fold as fold
 use Rattle.fold.specs.Fold.{World, Process, Page, process, page, call, with-page, with-process, stored, looked, others, nobody}
 use Rattle.private.specs.See.{Rows, Labels, Makes, label-of}

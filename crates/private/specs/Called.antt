@@ -4,11 +4,11 @@ use Prim.Native.Nat.{ℕ, _-_}
 use Rattle.std.specs.declared.result.Result.{Result}
 use Rattle.std.specs.declared.result.Result.the-variants.{Ok, Err}
 use Rattle.fold.specs.Fold as fold
-use Rattle.calls.specs.Meaning.{Asked, calls, counts, asked, seen-sizes}
-use Rattle.calls.specs.declared.answer.Answer.{Answer}
-use Rattle.calls.specs.declared.answer.Answer.the-variants.{Done}
-use Rattle.calls.specs.declared.request.Call.{Call}
-use Rattle.calls.specs.declared.sizes.Sizes.{Sizes}
+use Rattle.requests.specs.Meaning.{Asked, calls, counts, asked, seen-sizes}
+use Rattle.requests.specs.declared.answer.Answer.{Answer}
+use Rattle.requests.specs.declared.answer.Answer.the-variants.{Done}
+use Rattle.requests.specs.declared.request.Call.{Call}
+use Rattle.requests.specs.declared.sizes.Sizes.{Sizes}
 use Rattle.private.specs.See.{see, Makes}
 use Rattle.private.specs.declared.machine.Machine.{Machine}
 use Rattle.private.specs.declared.want.Want.{Want}

@@ -9,9 +9,9 @@ use Rattle.std.specs.Of.Vec.{vec-items}
 use Rattle.std.specs.declared.result.Result.{Result}
 use Rattle.std.specs.declared.result.Result.the-variants.{Ok, Err}
 use Rattle.fold.specs.Fold as fold
-use Rattle.calls.specs.Meaning.{answered, seen-sizes}
-use Rattle.calls.specs.declared.answer.Answer.{Answer}
-use Rattle.calls.specs.declared.sizes.Sizes.{Sizes}
+use Rattle.requests.specs.Meaning.{answered, seen-sizes}
+use Rattle.requests.specs.declared.answer.Answer.{Answer}
+use Rattle.requests.specs.declared.sizes.Sizes.{Sizes}
 use Rattle.private.specs.SeePage.{see-process, matching, blank, rewritten-in}
 use Rattle.private.specs.declared.memory.Memory.{Memory}
 use Rattle.private.specs.declared.page.Sought.{Sought}

@@ -4,7 +4,7 @@ ghost use mathlib.Core.Bool.{true, false};
 ghost use lib.ListN.{getD};
 ghost use Rattle.std.specs.Options.{Cases};
 ghost use Rattle.fold.specs.Fold.{there};
-ghost use Rattle.calls.specs.Meaning.{answered};
+ghost use Rattle.requests.specs.Meaning.{answered};
 ghost use Rattle.private.specs.SeePage.{see-process};
 ghost use Rattle.private.specs.See.{see, alive-at, process-seen, page-at, inside-at, reached-at, free-at, used-at, shared-at, load-at, segment-at};
 use super::memory::Memory;
@@ -12,8 +12,8 @@ use super::page::BYTES;
 use super::page::Page;
 use super::page::Sought;
 use super::process::Process;
-use calls::answer::Answer;
-use calls::sizes::Sizes;
+use requests::answer::Answer;
+use requests::sizes::Sizes;
 
 impl Memory {
     pub(crate) fn living(&self, process: usize) -> Option<&Process>

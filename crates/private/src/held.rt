@@ -9,7 +9,7 @@ ghost use Rattle.private.specs.See.{see, full-at, looked-at, all-held, Labels}
 use super::memory::Memory;
 use super::page::Page;
 use super::page::Sought;
-use calls::sizes::Sizes;
+use requests::sizes::Sizes;
 use std::alloc::AllocError;
 
 impl Memory {

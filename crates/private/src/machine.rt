@@ -1,7 +1,7 @@
 // The machine: its sizes and its memory.
 ghost use Rattle.private.specs.See.{see, Rows, Labels};
 use super::memory::Memory;
-use calls::sizes::Sizes;
+use requests::sizes::Sizes;
 
 #[derive(Drop)]
 pub struct Machine {

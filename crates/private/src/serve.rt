@@ -14,9 +14,9 @@ use super::memory::Memory;
 use super::process::Process;
 use super::want::Want;
 use super::want::WantFromAlloc;
-use calls::answer::Answer;
-use calls::request::Call;
-use calls::sizes::Sizes;
+use requests::answer::Answer;
+use requests::request::Call;
+use requests::sizes::Sizes;
 use std::alloc::AllocError;
 use std::alloc::Global;
 

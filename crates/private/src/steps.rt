@@ -6,8 +6,8 @@ use super::page::Page;
 use super::page::zeros;
 use super::want::Want;
 use super::want::WantFromAlloc;
-use calls::answer::Answer;
-use calls::sizes::Sizes;
+use requests::answer::Answer;
+use requests::sizes::Sizes;
 
 impl Memory {
     pub(crate) fn fork(&mut self, sizes: Sizes, process: usize) -> Result<Answer, Want>

@@ -5,13 +5,13 @@ use Prim.Native.Nat.{ℕ, suc, _+_}
 use Rattle.std.specs.declared.option.Option.the-variants.{Some, None}
 use Rattle.std.specs.declared.result.Result.the-variants.{Ok}
 use Rattle.fold.specs.Fold as fold
-use Rattle.calls.specs.Meaning.{Asked, calls, counts, asked, answered, seen-sizes}
-use Rattle.calls.specs.Row.{call-at}
-use Rattle.calls.specs.Text.{answer-text}
-use Rattle.calls.specs.declared.answer.Answer.{Answer}
-use Rattle.calls.specs.declared.answer.Answer.the-variants.{Done, Fault, Full}
-use Rattle.calls.specs.declared.request.Call.{Call}
-use Rattle.calls.specs.declared.sizes.Sizes.{Sizes}
+use Rattle.requests.specs.Meaning.{Asked, calls, counts, asked, answered, seen-sizes}
+use Rattle.requests.specs.Row.{call-at}
+use Rattle.requests.specs.Text.{answer-text}
+use Rattle.requests.specs.declared.answer.Answer.{Answer}
+use Rattle.requests.specs.declared.answer.Answer.the-variants.{Done, Fault, Full}
+use Rattle.requests.specs.declared.request.Call.{Call}
+use Rattle.requests.specs.declared.sizes.Sizes.{Sizes}
 use Rattle.private.specs.Called.{Served}
 use Rattle.rows.specs.Played.{lines-from, told, serve, line, fold-text}
 

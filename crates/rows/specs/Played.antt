@@ -7,13 +7,13 @@ use Rattle.std.specs.Written.{decimal}
 use Rattle.std.specs.declared.option.Option.{Option}
 use Rattle.std.specs.declared.option.Option.the-variants.{Some, None}
 use Rattle.fold.specs.Fold as fold
-use Rattle.calls.specs.Meaning.{Asked, calls, counts, asked, seen-sizes}
-use Rattle.calls.specs.Ranges.{sizes-of, sizes-refusal}
-use Rattle.calls.specs.Row.{call-at, row-refusal}
-use Rattle.calls.specs.Text.{refusal-text}
-use Rattle.calls.specs.declared.answer.Refusal.{Refusal}
-use Rattle.calls.specs.declared.request.Call.{Call}
-use Rattle.calls.specs.declared.sizes.Sizes.{Sizes}
+use Rattle.requests.specs.Meaning.{Asked, calls, counts, asked, seen-sizes}
+use Rattle.requests.specs.Ranges.{sizes-of, sizes-refusal}
+use Rattle.requests.specs.Row.{call-at, row-refusal}
+use Rattle.requests.specs.Text.{refusal-text}
+use Rattle.requests.specs.declared.answer.Refusal.{Refusal}
+use Rattle.requests.specs.declared.request.Call.{Call}
+use Rattle.requests.specs.declared.sizes.Sizes.{Sizes}
 
 abbrev pub fold-text : fold.Answer → List ℕ
 fold-text (fold.done n) = codes "done " ++ decimal n

@@ -5,8 +5,8 @@ use native.Mathlib.Omega.{arith}
 use Rattle.std.proofs.shelf.Lists.{append-assoc, append-nil}
 use Rattle.std.specs.Of.String.{string-bytes}
 use Rattle.fold.specs.Fold as fold
-use Rattle.calls.specs.Meaning.{seen-sizes, asked, answered}
-use Rattle.calls.specs.declared.sizes.Sizes.{Sizes}
+use Rattle.requests.specs.Meaning.{seen-sizes, asked, answered}
+use Rattle.requests.specs.declared.sizes.Sizes.{Sizes}
 use Rattle.std.specs.declared.result.Result.the-variants.{Ok}
 use Rattle.private.specs.declared.machine.Machine.{Machine}
 use Rattle.private.specs.Called.{world, Served}

@@ -2,7 +2,7 @@ use mathlib.Core.Path.{_≡_}
 use mathlib.Core.List.{_++_}
 use Prim.Native.Nat.{_-_}
 use Rattle.std.specs.Of.String.{string-bytes}
-use Rattle.calls.specs.Meaning.{seen-sizes}
+use Rattle.requests.specs.Meaning.{seen-sizes}
 use Rattle.private.specs.Called.{world}
 use Rattle.rows.specs.Played.{lines-from}
 use Rattle.rows.proofs.lines.Given as given

@@ -1,7 +1,7 @@
 use mathlib.Core.Path.{refl, sym, subst}
 use Rattle.std.specs.declared.result.Result.the-variants.{Ok}
 use Rattle.fold.specs.Fold as fold
-use Rattle.calls.specs.Meaning.{asked}
+use Rattle.requests.specs.Meaning.{asked}
 use Rattle.private.specs.Called.{Served}
 use Rattle.private.specs.See.{see}
 use Rattle.private.proofs.Keeps.{makes-keep}

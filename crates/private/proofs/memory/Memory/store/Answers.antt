@@ -4,10 +4,10 @@ use mathlib.Core.List.{List}
 use Prim.Native.Nat.{ℕ}
 use Rattle.std.specs.declared.result.Result.{Result}
 use Rattle.std.specs.declared.result.Result.the-variants.{Ok, Err}
-use Rattle.calls.specs.declared.answer.Answer.{Answer}
-use Rattle.calls.specs.declared.sizes.Sizes.{Sizes}
+use Rattle.requests.specs.declared.answer.Answer.{Answer}
+use Rattle.requests.specs.declared.sizes.Sizes.{Sizes}
 use Rattle.private.specs.declared.want.Want.{Want}
-use Rattle.calls.specs.Meaning.{seen-sizes}
+use Rattle.requests.specs.Meaning.{seen-sizes}
 use Rattle.fold.specs.Fold as fold
 use Rattle.private.specs.See.{see, reached-at, Stores, Stores-own}
 use Rattle.private.specs.SeePage.{see-page}

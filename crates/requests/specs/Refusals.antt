@@ -1,7 +1,7 @@
 -- The number and the place of each refusal, and a result that may be refused. Assumes nothing.
 use Prim.Native.Nat.{ℕ}
-use Rattle.calls.specs.declared.answer.Refusal.{Refusal}
-use Rattle.calls.specs.declared.answer.Refusal.the-variants.{Size, Lent, Length, Kind}
+use Rattle.requests.specs.declared.answer.Refusal.{Refusal}
+use Rattle.requests.specs.declared.answer.Refusal.the-variants.{Size, Lent, Length, Kind}
 use Rattle.std.specs.declared.option.Option.{Option}
 use Rattle.std.specs.declared.option.Option.the-variants.{Some, None}
 use Rattle.std.specs.declared.result.Result.{Result}

@@ -3,8 +3,8 @@ ghost use mathlib.Core.Path.{_≡_};
 ghost use mathlib.Core.List.{[], _∷_};
 ghost use Prim.Native.Nat.{_<_};
 ghost use lib.ListN.{getD};
-ghost use Rattle.calls.specs.Ranges.{In-range, number-at, out-of-range, ranged, sizes-of, sizes-refusal};
-ghost use Rattle.calls.specs.Refusals.{unless-refused};
+ghost use Rattle.requests.specs.Ranges.{In-range, number-at, out-of-range, ranged, sizes-of, sizes-refusal};
+ghost use Rattle.requests.specs.Refusals.{unless-refused};
 ghost use Rattle.std.specs.Vec.{made};
 use crate::answer::Refusal;
 

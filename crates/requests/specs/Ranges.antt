@@ -4,9 +4,9 @@ use mathlib.Core.List.{List, [], _∷_}
 use Prim.Native.Nat.{ℕ, suc, _+_, _*_, _≤_}
 use lib.Dec.{leb}
 use lib.ListN.{getD}
-use Rattle.calls.specs.declared.answer.Refusal.{Refusal}
-use Rattle.calls.specs.declared.answer.Refusal.the-variants.{Size}
-use Rattle.calls.specs.declared.sizes.Sizes.{Sizes}
+use Rattle.requests.specs.declared.answer.Refusal.{Refusal}
+use Rattle.requests.specs.declared.answer.Refusal.the-variants.{Size}
+use Rattle.requests.specs.declared.sizes.Sizes.{Sizes}
 use Rattle.std.specs.declared.option.Option.{Option}
 use Rattle.std.specs.declared.option.Option.the-variants.{Some, None}
 

@@ -1,6 +1,6 @@
 -- The laws are lemmas of their own, so that others can cite them.
-use Rattle.calls.proofs.Saying.{row-says, row-refuses-first, row-stores}
-use Rattle.calls.proofs.row.row_laws.Needs as need
+use Rattle.requests.proofs.Saying.{row-says, row-refuses-first, row-stores}
+use Rattle.requests.proofs.row.row_laws.Needs as need
 
 pub returns : need.returns
 returns c = record { says = row-says; first = row-refuses-first; stores = row-stores }

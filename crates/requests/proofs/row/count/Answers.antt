@@ -2,9 +2,9 @@
 use mathlib.Core.Path.{sym, ap, _∙_}
 use Prim.Native.Nat.{_/_}
 use lib.ListN.{length}
-use Rattle.calls.specs.Refusals.{unless-refused}
-use Rattle.calls.proofs.Decoding.{kind-refused, kind-passed, kinds-passed, refused-by-kind}
-use Rattle.calls.proofs.row.count.Needs as need
+use Rattle.requests.specs.Refusals.{unless-refused}
+use Rattle.requests.proofs.Decoding.{kind-refused, kind-passed, kinds-passed, refused-by-kind}
+use Rattle.requests.proofs.row.count.Needs as need
 
 pub returns-then-not-is-kind : need.returns-then-not-is-kind
 returns-then-not-is-kind c =

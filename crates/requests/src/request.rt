@@ -1,6 +1,6 @@
 // One call, and how bytes say it.
 ghost use mathlib.Core.Path.{_≡_};
-ghost use Rattle.calls.specs.Row.{call-of};
+ghost use Rattle.requests.specs.Row.{call-of};
 
 // A number that names no process, page or byte of the machine is allowed here, and answered as a fault.
 #[derive(Clone, Copy, PartialEq, Eq)]

@@ -8,12 +8,12 @@ use native.Mathlib.Nat.{add-zero, zero-add}
 use native.Mathlib.Omega.{arith}
 use lib.Dec.{eqb, leb, ltb}
 use lib.ListN.{length, getD}
-use Rattle.calls.specs.declared.answer.Refusal.{Refusal}
-use Rattle.calls.specs.declared.answer.Refusal.the-variants.{Length, Kind}
-use Rattle.calls.specs.declared.request.Call.{Call}
-use Rattle.calls.specs.declared.request.Call.the-variants.{Counts}
-use Rattle.calls.specs.Row.{call-table, call-of, kind-at, call-at, calls-from, calls-of, is-kind, unknown-from}
-use Rattle.calls.specs.Row.{Stores-byte, Stores-bytes, Row-says, Row-refuses-first, Row-stores}
+use Rattle.requests.specs.declared.answer.Refusal.{Refusal}
+use Rattle.requests.specs.declared.answer.Refusal.the-variants.{Length, Kind}
+use Rattle.requests.specs.declared.request.Call.{Call}
+use Rattle.requests.specs.declared.request.Call.the-variants.{Counts}
+use Rattle.requests.specs.Row.{call-table, call-of, kind-at, call-at, calls-from, calls-of, is-kind, unknown-from}
+use Rattle.requests.specs.Row.{Stores-byte, Stores-bytes, Row-says, Row-refuses-first, Row-stores}
 use Rattle.std.proofs.shelf.Maps.{nth-getD, nth-past}
 use Rattle.std.proofs.shelf.Tests.{false≢true, leb-true, lt-ltb, le-ltb, and-parts, cases-lt, cases-eq, cases-bool, cond-true, cond-false, cond-both}
 use Rattle.std.specs.declared.option.Option.{Option}

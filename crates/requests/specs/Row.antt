@@ -5,10 +5,10 @@ use mathlib.Core.List.{List, [], _∷_, _++_}
 use Prim.Native.Nat.{ℕ, zero, suc, _+_, _*_, _/_, _%_, _<_}
 use lib.Dec.{eqb, leb, ltb}
 use lib.ListN.{length, getD}
-use Rattle.calls.specs.declared.answer.Refusal.{Refusal}
-use Rattle.calls.specs.declared.answer.Refusal.the-variants.{Length, Kind}
-use Rattle.calls.specs.declared.request.Call.{Call}
-use Rattle.calls.specs.declared.request.Call.the-variants.{Fork, Leave, Map, Drop, Make, Look, Load, Store, Counts}
+use Rattle.requests.specs.declared.answer.Refusal.{Refusal}
+use Rattle.requests.specs.declared.answer.Refusal.the-variants.{Length, Kind}
+use Rattle.requests.specs.declared.request.Call.{Call}
+use Rattle.requests.specs.declared.request.Call.the-variants.{Fork, Leave, Map, Drop, Make, Look, Load, Store, Counts}
 use Rattle.std.specs.declared.option.Option.{Option}
 use Rattle.std.specs.declared.option.Option.the-variants.{Some, None}
 use Rattle.std.specs.Vec.{listOf}

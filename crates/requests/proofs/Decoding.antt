@@ -7,8 +7,8 @@ use native.Mathlib.Omega.{arith}
 use borrow.Author.Tests.{eq-eqb}
 use lib.Dec.{eqb}
 use lib.ListN.{length}
-use Rattle.calls.specs.declared.answer.Refusal.the-variants.{Kind}
-use Rattle.calls.specs.Row.{is-kind, kind-at, unknown-from, row-refusal}
+use Rattle.requests.specs.declared.answer.Refusal.the-variants.{Kind}
+use Rattle.requests.specs.Row.{is-kind, kind-at, unknown-from, row-refusal}
 use Rattle.std.specs.declared.option.Option.the-variants.{Some, None}
 
 -- of n calls, those from i on are refused for call i, or as those after it are

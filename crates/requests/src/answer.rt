@@ -1,7 +1,7 @@
 // What a call is answered, and why an opening or a row is refused.
 ghost use mathlib.Core.Path.{_≡_};
-ghost use Rattle.calls.specs.Refusals.{refusal-number, refusal-place};
-ghost use Rattle.calls.specs.Text.{answer-text, refusal-text};
+ghost use Rattle.requests.specs.Refusals.{refusal-number, refusal-place};
+ghost use Rattle.requests.specs.Text.{answer-text, refusal-text};
 ghost use Rattle.std.specs.declared.option.Option.the-variants.{Some};
 use std::fmt;
 

@@ -2,8 +2,8 @@
 ghost use mathlib.Core.Path.{_≡_};
 ghost use Prim.Native.Nat.{_/_};
 ghost use lib.ListN.{length};
-ghost use Rattle.calls.specs.Refusals.{unless-refused};
-ghost use Rattle.calls.specs.Row.{Row-refuses-first, Row-says, Row-stores, call-at, is-kind, row-refusal};
+ghost use Rattle.requests.specs.Refusals.{unless-refused};
+ghost use Rattle.requests.specs.Row.{Row-refuses-first, Row-says, Row-stores, call-at, is-kind, row-refusal};
 use crate::answer::Refusal;
 use crate::request::Call;
 

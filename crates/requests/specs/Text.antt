@@ -2,10 +2,10 @@
 use mathlib.Core.List.{List, _++_}
 use Prim.Native.Nat.{ℕ}
 use lib.Chars.{codes}
-use Rattle.calls.specs.declared.answer.Answer.{Answer}
-use Rattle.calls.specs.declared.answer.Answer.the-variants.{Done, Fault, Full}
-use Rattle.calls.specs.declared.answer.Refusal.{Refusal}
-use Rattle.calls.specs.Refusals.{refusal-number, refusal-place}
+use Rattle.requests.specs.declared.answer.Answer.{Answer}
+use Rattle.requests.specs.declared.answer.Answer.the-variants.{Done, Fault, Full}
+use Rattle.requests.specs.declared.answer.Refusal.{Refusal}
+use Rattle.requests.specs.Refusals.{refusal-number, refusal-place}
 use Rattle.std.specs.Written.{decimal}
 
 abbrev pub answer-text : Answer → List ℕ

@@ -2,11 +2,11 @@
 use mathlib.Core.Path.{_≡_}
 use Prim.Native.Nat.{ℕ, _+_}
 use Rattle.fold.specs.Fold as fold
-use Rattle.calls.specs.declared.request.Call.{Call}
-use Rattle.calls.specs.declared.request.Call.the-variants.{Fork, Leave, Map, Drop, Make, Look, Load, Store, Counts}
-use Rattle.calls.specs.declared.answer.Answer.{Answer}
-use Rattle.calls.specs.declared.answer.Answer.the-variants.{Done, Fault, Full}
-use Rattle.calls.specs.declared.sizes.Sizes.{Sizes}
+use Rattle.requests.specs.declared.request.Call.{Call}
+use Rattle.requests.specs.declared.request.Call.the-variants.{Fork, Leave, Map, Drop, Make, Look, Load, Store, Counts}
+use Rattle.requests.specs.declared.answer.Answer.{Answer}
+use Rattle.requests.specs.declared.answer.Answer.the-variants.{Done, Fault, Full}
+use Rattle.requests.specs.declared.sizes.Sizes.{Sizes}
 
 -- A call of the code asks for a call of the machine, or for the counts of reads and writes of the disk.
 pub data Asked : Type 0 where

@@ -1,0 +1,5 @@
+pub mod Meaning
+pub mod Ranges
+pub mod Refusals
+pub mod Row
+pub mod Text
