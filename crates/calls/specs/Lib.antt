@@ -1,3 +1,4 @@
 pub mod Calls
 pub mod Machine
+pub mod Memory
 pub mod Pages
