@@ -1,3 +1,4 @@
+pub mod Room
 pub mod Sim
 pub mod Sums
 pub mod Users

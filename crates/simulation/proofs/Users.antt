@@ -43,11 +43,12 @@ sumBy-none f xs d h =
 pub names-one : (x : ℕ) → names x (at x) ≡ 1
 names-one x = cond-true _ 1 0 (eq-eqb x x refl)
 
-pub names-none : (x : ℕ) (h : Held) → (h ≡ at x → ⊥) → names x h ≡ 0
-names-none x nothing n = refl
-names-none x zeros n = refl
-names-none x (segment s) n = refl
-names-none x (at y) n = cond-false _ 1 0 (ne-eqb x y (λ e. n (ap at (sym e))))
+pub names-some : (x : ℕ) (h : Held) → 0 < names x h → h ≡ at x
+names-some x nothing k = absurd (omega arith)
+names-some x zeros k = absurd (omega arith)
+names-some x (segment s) k = absurd (omega arith)
+names-some x (at y) k =
+    elim (cases-eq x y) [ inl e ↦ ap at (sym e) | inr n ↦ absurd (omega (arith, cond-false {A = ℕ} (eqb x y) 1 0 (ne-eqb x y n))) ]
 
 cond-few : (b : Bool) → cond b 1 0 ≤ 1
 cond-few true = omega arith
@@ -99,26 +100,38 @@ module _ {z : Sizes} {lab : ℕ → ℕ} {m : Machine} {w : World} (sim : Sim z 
       seen-as (at x) = refl
       seen-as (segment t) = refl
 
-  -- A segment that lies at x has lookers, so it is the only one that names x: no entry does.
-  pub no-segment-there : (p v x : ℕ) → holds m p v ≡ at x → namers x (state m .segments) ≡ 0
-  no-segment-there p v x e = sumBy-none (λ (c : Cell). names x (c .holds)) (state m .segments) none (λ s h. names-none x _ (λ lies. never s (omega (arith, sim .shape .table)) lies))
-    where
-      here : names x (holds m p v) ≡ 1
-      here = ap (names x) e ∙ names-one x
+  -- a location that segments name is where one lies
+  pub segment-there : (x : ℕ) → 0 < namers x (state m .segments) → (s : ℕ) × (s < z .segments) × (getD (state m .segments) s none .holds ≡ at x)
+  segment-there x h =
+      let k = sumBy-member (λ (c : Cell). names x (c .holds)) (state m .segments) h in (k .0, omega (arith, k .1, sim .shape .table), names-some x _ (k .2 none))
 
-      never : (s : ℕ) → s < z .segments → getD (state m .segments) s none .holds ≡ at x → ⊥
-      never s h lies =
-          elim (cases-lt 0 (getD (state m .lookers) s 0)) [
-            | inr idle ↦ nothing≢at x (sym (sim .idle s h (omega arith)) ∙ lies)
-            | inl some ↦
-                let l = sim .lying s h some in
-                let is : l .where-it-is ≡ x = at-same _ _ (sym (l .at-it) ∙ lies) in
-                let one : getD (state m .counts) x 0 ≡ 1 = ap (λ y. getD (state m .counts) y 0) (sym is) ∙ l .alone in
-                let entry : names x (holds m p v) ≤ over (names x) (state m .rows) = over-below (names x) refl (state m .rows) p v in
-                let seg : names x (getD (state m .segments) s none .holds) ≤ namers x (state m .segments) = getD-le-sumBy (λ (c : Cell). names x (c .holds)) (state m .segments) s none (omega (arith, sim .shape .table)) in
-                let is-one : names x (getD (state m .segments) s none .holds) ≡ 1 = ap (names x) lies ∙ names-one x in
-                omega (arith, sim .counts x (sim .labels p v x e .0), here)
-          ]
+  pub segment-names : (s x : ℕ) → s < z .segments → getD (state m .segments) s none .holds ≡ at x → 1 ≤ namers x (state m .segments)
+  segment-names s x h e =
+      omega (arith, getD-le-sumBy (λ (c : Cell). names x (c .holds)) (state m .segments) s none (omega (arith, sim .shape .table)), ap (names x) e, names-one x)
+
+  -- A segment that lies somewhere is looked at, else it would lie nowhere, and is all that lies there.
+  pub lies-alone : (s x : ℕ) → s < z .segments → getD (state m .segments) s none .holds ≡ at x → (x < z .hold) × (getD (state m .counts) x 0 ≡ 1) × (0 < getD (state m .lookers) s 0)
+  lies-alone s x h e =
+      elim (cases-lt 0 (getD (state m .lookers) s 0)) [
+        | inr idle ↦ absurd (nothing≢at x (sym (sim .idle s h (omega arith)) ∙ e))
+        | inl some ↦
+            let l = sim .lying s h some in
+            let is : l .where-it-is ≡ x = at-same _ _ (sym (l .at-it) ∙ e) in
+            (omega (arith, l .within), ap (λ y. getD (state m .counts) y 0) (sym is) ∙ l .alone, some)
+      ]
+
+  pub entry-names : (p v x : ℕ) → holds m p v ≡ at x → 1 ≤ over (names x) (state m .rows)
+  entry-names p v x e = omega (arith, over-below (names x) refl (state m .rows) p v, ap (names x) e, names-one x)
+
+  -- So where an entry names a location, no segment lies.
+  pub no-segment-there : (p v x : ℕ) → holds m p v ≡ at x → namers x (state m .segments) ≡ 0
+  no-segment-there p v x e =
+      elim (cases-lt 0 (namers x (state m .segments))) [
+        | inr none ↦ omega arith
+        | inl some ↦
+            let s = segment-there x some in
+            let one = lies-alone (s .0) x (s .1) (s .2) in absurd (omega (arith, one .1, sim .counts x (one .0), entry-names p v x e))
+      ]
 
   -- The pages with the label of x are the entries that name x.
   pub users-same : (p v x : ℕ) → holds m p v ≡ at x → users w (lab x) ≡ getD (state m .counts) x 0
