@@ -1,3 +1,4 @@
+pub mod Begin
 pub mod Room
 pub mod Sim
 pub mod Sums

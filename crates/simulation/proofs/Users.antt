@@ -33,7 +33,7 @@ sumBy-same f g (x ∷ xs) (y ∷ ys) d e l h =
     omega (arith, sumBy-cons f x xs, sumBy-cons g y ys)
 
 -- a sum of which every number is 0
-sumBy-none : {X : Type 0} (f : X → ℕ) (xs : List X) (d : X) → ((i : ℕ) → i < length xs → f (getD xs i d) ≡ 0) → sumBy f xs ≡ 0
+pub sumBy-none : {X : Type 0} (f : X → ℕ) (xs : List X) (d : X) → ((i : ℕ) → i < length xs → f (getD xs i d) ≡ 0) → sumBy f xs ≡ 0
 sumBy-none f xs d h =
     elim (cases-lt 0 (sumBy f xs)) [
       | inl some ↦ let m = sumBy-member f xs some in absurd (omega (arith, m .2 d, h (m .0) (m .1)))
