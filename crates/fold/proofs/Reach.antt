@@ -310,24 +310,24 @@ nothing-held w none =
     omega (arith, held-is w)
 
 -- the start: nothing is there but process 0, and it has no page
-others-gone : (pages n q : ℕ) → getD (others pages n) q nobody .alive ≡ false
+pub others-gone : (pages n q : ℕ) → getD (others pages n) q nobody .alive ≡ false
 unfolding others
 others-gone pages zero q = refl
 others-gone pages (suc n) zero = refl
 others-gone pages (suc n) (suc q) = others-gone pages n q
 
-others-length : (pages n : ℕ) → length (others pages n) ≡ n
+pub others-length : (pages n : ℕ) → length (others pages n) ≡ n
 unfolding others
 others-length pages zero = refl
 others-length pages (suc n) = ap suc (others-length pages n)
 
-all-absent : (n v : ℕ) → getD (replicate n absent) v absent ≡ absent
-all-absent n v =
-    elim (cases-lt v n) [ inl h ↦ getD-replicate n v absent absent h | inr h ↦ getD-past (replicate n absent) v absent (omega (arith, length-replicate n absent)) ]
+pub all-same : {X : Type 0} (n i : ℕ) (x : X) → getD (replicate n x) i x ≡ x
+all-same n i x =
+    elim (cases-lt i n) [ inl h ↦ getD-replicate n i x x h | inr h ↦ getD-past (replicate n x) i x (omega (arith, length-replicate n x)) ]
 
-begin-absent : (z : Sizes) (n p v : ℕ) → page (begin z n) p v ≡ absent
+pub begin-absent : (z : Sizes) (n p v : ℕ) → page (begin z n) p v ≡ absent
 unfolding begin page process
-begin-absent z n zero v = all-absent (z .pages) v
+begin-absent z n zero v = all-same (z .pages) v absent
 begin-absent z n (suc q) v = cond-false _ _ absent (others-gone (z .pages) n q)
 
 begin-wide : (z : Sizes) (n p : ℕ) → process (begin z n) p .alive ≡ true → length (process (begin z n) p .pages) ≡ z .pages

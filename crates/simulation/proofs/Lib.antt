@@ -1,2 +1,5 @@
+pub mod Begin
+pub mod Room
 pub mod Sim
 pub mod Sums
+pub mod Users
