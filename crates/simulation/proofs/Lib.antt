@@ -1,3 +1,4 @@
 pub mod Moves
 pub mod Sim
 pub mod Sums
+pub mod Taking
