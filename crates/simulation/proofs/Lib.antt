@@ -1,4 +1,6 @@
 pub mod Hits
+pub mod Load
+pub mod Marks
 pub mod Moves
 pub mod Reaching
 pub mod Sim
