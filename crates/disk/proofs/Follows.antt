@@ -19,28 +19,28 @@ use Rattle.disk.specs.Moves.{swap-at, relocated, gone-out, come-in, exchanged}
 use Rattle.disk.specs.Follows.{spot-moved, segment-spot, bytes-at, Walk-follows, Segment-follows, Nobody-at, Same-bytes, There, Out-keeps-bytes, In-keeps-bytes, Exchange-keeps-bytes, names, namers, named, Counts-right, Counts-follow}
 
 -- a map read at any index, where it takes the default to the default
-map-at : {X Y : Type 0} (f : X → Y) (xs : List X) (i : ℕ) (d : X) (e : Y) → f d ≡ e → getD (map f xs) i e ≡ f (getD xs i d)
+pub map-at : {X Y : Type 0} (f : X → Y) (xs : List X) (i : ℕ) (d : X) (e : Y) → f d ≡ e → getD (map f xs) i e ≡ f (getD xs i d)
 map-at f xs i d e h =
     elim (cases-lt i (length xs))
     [ inl l ↦ getD-map f xs i d e l | inr l ↦ getD-past (map f xs) i e (omega (arith, length-map xs f)) ∙ sym h ∙ ap f (sym (getD-past xs i d l)) ]
 
 -- the exchange of two locations, case by case
-swapped-x : (x y : ℕ) → swapped x y x ≡ y
+pub swapped-x : (x y : ℕ) → swapped x y x ≡ y
 swapped-x x y = cond-true _ _ _ (eq-eqb x x refl)
 
-swapped-y : (x y : ℕ) → swapped x y y ≡ x
+pub swapped-y : (x y : ℕ) → swapped x y y ≡ x
 swapped-y x y =
     elim (cases-eq y x)
     [ inl e ↦ cond-true _ y (cond (eqb y y) x y) (eq-eqb y x e) ∙ e | inr n ↦ cond-false _ y (cond (eqb y y) x y) (ne-eqb y x n) ∙ cond-true _ _ _ (eq-eqb y y refl) ]
 
-swapped-other : (x y l : ℕ) → l ≢ x → l ≢ y → swapped x y l ≡ l
+pub swapped-other : (x y l : ℕ) → l ≢ x → l ≢ y → swapped x y l ≡ l
 swapped-other x y l n k = cond-false _ _ _ (ne-eqb l x n) ∙ cond-false _ _ _ (ne-eqb l y k)
 
 -- l is x, or y, or neither
-which : (x y l : ℕ) → (l ≡ x) ⊎ ((l ≡ y) ⊎ ((l ≢ x) × (l ≢ y)))
+pub which : (x y l : ℕ) → (l ≡ x) ⊎ ((l ≡ y) ⊎ ((l ≢ x) × (l ≢ y)))
 which x y l = elim (cases-eq l x) [ inl e ↦ inl e | inr n ↦ elim (cases-eq l y) [ inl e ↦ inr (inl e) | inr k ↦ inr (inr (n, k)) ] ]
 
-swapped-twice : (x y l : ℕ) → swapped x y (swapped x y l) ≡ l
+pub swapped-twice : (x y l : ℕ) → swapped x y (swapped x y l) ≡ l
 swapped-twice x y l =
     elim (which x y l) [
       | inl e ↦ ap (λ k. swapped x y (swapped x y k)) e ∙ ap (swapped x y) (swapped-x x y) ∙ swapped-y x y ∙ sym e
@@ -49,7 +49,7 @@ swapped-twice x y l =
     ]
 
 -- what stood at l stands at its new location
-swap-follows : {X : Type 0} (x y l : ℕ) (d : X) (xs : List X) → x < length xs → y < length xs → getD (swap-at x y d xs) (swapped x y l) d ≡ getD xs l d
+pub swap-follows : {X : Type 0} (x y l : ℕ) (d : X) (xs : List X) → x < length xs → y < length xs → getD (swap-at x y d xs) (swapped x y l) d ≡ getD xs l d
 swap-follows x y l d xs h k =
     elim (which x y l) [
       | inl e ↦
@@ -71,12 +71,12 @@ swap-follows x y l d xs h k =
 
 module _ (x y : ℕ) (ps : List (List ℕ)) (m : State) where
   -- every entry and every segment is the old one, renamed
-  entry-follows : (p v : ℕ) → entry-of (relocated x y ps m .rows) p v ≡ renamed x y (entry-of (m .rows) p v)
+  pub entry-follows : (p v : ℕ) → entry-of (relocated x y ps m .rows) p v ≡ renamed x y (entry-of (m .rows) p v)
   unfolding relocated
   entry-follows p v =
       ap (λ r. getD r v none) (map-at (map (renamed x y)) (m .rows) p [] [] refl) ∙ map-at (renamed x y) (row (m .rows) p) v none none refl
 
-  segment-renamed : (s : ℕ) → getD (relocated x y ps m .segments) s none ≡ renamed x y (getD (m .segments) s none)
+  pub segment-renamed : (s : ℕ) → getD (relocated x y ps m .segments) s none ≡ renamed x y (getD (m .segments) s none)
   unfolding relocated
   segment-renamed s = map-at (renamed x y) (m .segments) s none none refl
 
@@ -122,14 +122,14 @@ same-bytes x y ps m a b page seg =
     }
 
 -- the pages after each of the three moves
-out-page : (f d l : ℕ) (ps : List (List ℕ)) → d < length ps → l ≢ d → row (set ps d (row ps f)) (swapped f d l) ≡ row ps l
+pub out-page : (f d l : ℕ) (ps : List (List ℕ)) → d < length ps → l ≢ d → row (set ps d (row ps f)) (swapped f d l) ≡ row ps l
 out-page f d l ps h n =
     elim (cases-eq l f) [
       | inl e ↦ ap (row (set ps d (row ps f))) (ap (swapped f d) e ∙ swapped-x f d) ∙ getD-set-same ps d (row ps f) [] h ∙ ap (row ps) (sym e)
       | inr k ↦ ap (row (set ps d (row ps f))) (swapped-other f d l k n) ∙ getD-set-other ps d l (row ps f) [] n
     ]
 
-in-page : (f d l : ℕ) (ps : List (List ℕ)) → f < length ps → l ≢ f → row (set ps f (row ps d)) (swapped f d l) ≡ row ps l
+pub in-page : (f d l : ℕ) (ps : List (List ℕ)) → f < length ps → l ≢ f → row (set ps f (row ps d)) (swapped f d l) ≡ row ps l
 in-page f d l ps h n =
     elim (cases-eq l d) [
       | inl e ↦ ap (row (set ps f (row ps d))) (ap (swapped f d) e ∙ swapped-y f d) ∙ getD-set-same ps f (row ps d) [] h ∙ ap (row ps) (sym e)
@@ -163,7 +163,7 @@ names-moved x y l (at z) =
       | inr n ↦ ne-eqb l (swapped x y z) n ∙ sym (ne-eqb (swapped x y l) z (λ k. n (sym (swapped-twice x y l) ∙ ap (swapped x y) k)))
     ])
 
-sumBy-map : {X Y : Type 0} (f : Y → ℕ) (g : X → Y) (xs : List X) → sumBy f (map g xs) ≡ sumBy (λ x. f (g x)) xs
+pub sumBy-map : {X Y : Type 0} (f : Y → ℕ) (g : X → Y) (xs : List X) → sumBy f (map g xs) ≡ sumBy (λ x. f (g x)) xs
 sumBy-map f g [] = refl
 sumBy-map f g (x ∷ xs) = sumBy-cons f (g x) (map g xs) ∙ ap (λ n. f (g x) + n) (sumBy-map f g xs) ∙ sym (sumBy-cons (λ z. f (g z)) x xs)
 
@@ -177,7 +177,7 @@ named-moved x y ps m l =
     sumBy-map (namers l) (map (renamed x y)) (m .rows) ∙ ap (λ (f : List Cell → ℕ). sumBy f (m .rows)) (fun-ext (namers-moved x y l)) in
     λ i. rows i + namers-moved x y l (m .segments) i
 
-swapped-within : (x y l n : ℕ) → x < n → y < n → l < n → swapped x y l < n
+pub swapped-within : (x y l n : ℕ) → x < n → y < n → l < n → swapped x y l < n
 swapped-within x y l n a b h =
     elim (which x y l)
     [ inl e ↦ omega (arith, ap (swapped x y) e ∙ swapped-x x y) | inr (inl e) ↦ omega (arith, ap (swapped x y) e ∙ swapped-y x y) | inr (inr k) ↦ omega (arith, swapped-other x y l (k .0) (k .1)) ]

@@ -18,15 +18,15 @@ use Rattle.disk.specs.Whole.{Choice, Whole, free-frame, free-place, taken-by, 
 use Rattle.disk.specs.Frames.{Chooses, Taken-is-free, None-left, None-only-if-full}
 
 -- the lowest free index is within, and has count 0
-free-at : (cs : List ℕ) (i : ℕ) → lowest-free cs ≡ Some i → (i < length cs) × (getD cs i 0 ≡ 0)
+pub free-at : (cs : List ℕ) (i : ℕ) → lowest-free cs ≡ Some i → (i < length cs) × (getD cs i 0 ≡ 0)
 free-at cs i e =
     let h = subst (λ (r : Option ℕ). Cases r ((k : ℕ) → k < length cs → getD cs k 0 ≢ 0) (λ j. (j < length cs) × (getD cs j 0 ≡ 0) × ((k : ℕ) → k < j → getD cs k 0 ≢ 0))) e (lowest-is-free cs) in
     (h .0, h .1)
 
-none≢some : {X : Type 0} (x : X) → None ≡ Some x → ⊥
+pub none≢some : {X : Type 0} (x : X) → None ≡ Some x → ⊥
 none≢some x e = let z : _≡_ {A = ℕ} 0 1 = cc in omega arith
 
-some-same : {X : Type 0} {x y : X} → Some x ≡ Some y → x ≡ y
+pub some-same : {X : Type 0} {x y : X} → Some x ≡ Some y → x ≡ y
 some-same q = cc
 
 -- after an exchange, x has what y had

@@ -1,5 +1,11 @@
 pub mod Begin
+pub mod Hits
+pub mod Load
+pub mod Marks
+pub mod Moves
+pub mod Reaching
 pub mod Room
 pub mod Sim
 pub mod Sums
+pub mod Taking
 pub mod Users
