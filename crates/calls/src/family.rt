@@ -65,3 +65,102 @@ fn raise_row(
         raise(lookers, frame_counts, place_counts, limits, target);
     }
 }
+
+// A child with the same pages, under the lowest number that is free. No page is copied: each has one user more.
+pub(crate) fn fork(
+    manager: Manager,
+    table: &mut [u16],
+    segments: &[u16],
+    lookers: &mut [u16],
+    frame_counts: &mut [u16],
+    place_counts: &mut [u16],
+    process: usize,
+) -> (Manager, Answer)
+    requires fits { ⌜ Fits (manager .sizes) (now table) (now segments) (now «frame_counts») (now «place_counts») ⌝ }
+    requires lookers { ⌜ length (now lookers) ≡ manager .sizes .segments ⌝ }
+    ensures { λ r. ⌜ ((used frames disk : List ℕ) → Serves manager (lent (now (table .entry)) (now (segments .entry)) (now (lookers .entry)) (now («frame_counts» .entry)) used (now («place_counts» .entry)) frames disk) (fold.fork process) r (lent (now (table .exit)) (now (segments .entry)) (now (lookers .exit)) (now («frame_counts» .exit)) used (now («place_counts» .exit)) frames disk)) ⌝ }
+{
+    if !manager.is_alive(process) {
+        return (manager, Answer::Fault);
+    }
+    let Some(child) = manager.lowest_absent() else {
+        return (manager, Answer::Full);
+    };
+    raise_row(
+        manager,
+        table,
+        lookers,
+        frame_counts,
+        place_counts,
+        process,
+    );
+    let limits = limits!(manager.sizes);
+    let pages = manager.sizes.pages;
+    table::copy_row(table, limits, pages, process, child);
+    let manager = settle(manager, table, segments, frame_counts, place_counts);
+    let manager = manager.with_alive(child, true);
+    (manager, Answer::Done(child as u64))
+}
+
+// Drops the pages of a process, one after the other.
+fn drop_row(
+    manager: Manager,
+    table: &mut [u16],
+    segments: &mut [u16],
+    lookers: &mut [u16],
+    frame_counts: &mut [u16],
+    place_counts: &mut [u16],
+    process: usize,
+)
+    requires fits { ⌜ Fits (manager .sizes) (now table) (now segments) (now «frame_counts») (now «place_counts») ⌝ }
+    requires lookers { ⌜ length (now lookers) ≡ manager .sizes .segments ⌝ }
+    requires process_within { ⌜ process < manager .sizes .processes ⌝ }
+    ensures { λ _. ⌜ ((used frames disk : List ℕ) → view (limits-of (manager .sizes)) (manager .sizes .pages) (manager .sizes .processes) (lent (now (table .exit)) (now (segments .exit)) (now (lookers .exit)) (now («frame_counts» .exit)) used (now («place_counts» .exit)) frames disk) ≡ dropped-row (view (limits-of (manager .sizes)) (manager .sizes .pages) (manager .sizes .processes) (lent (now (table .entry)) (now (segments .entry)) (now (lookers .entry)) (now («frame_counts» .entry)) used (now («place_counts» .entry)) frames disk)) process (manager .sizes .pages)) ⌝ }
+{
+    let limits = limits!(manager.sizes);
+    let pages = manager.sizes.pages;
+    for page in 0..pages {
+        release::drop_page(
+            table,
+            segments,
+            lookers,
+            frame_counts,
+            place_counts,
+            limits,
+            pages,
+            process,
+            page,
+        );
+    }
+}
+
+// The process is there no more. Each of its pages, in a frame or on the disk, has one user less.
+pub(crate) fn leave(
+    manager: Manager,
+    table: &mut [u16],
+    segments: &mut [u16],
+    lookers: &mut [u16],
+    frame_counts: &mut [u16],
+    place_counts: &mut [u16],
+    process: usize,
+) -> (Manager, Answer)
+    requires fits { ⌜ Fits (manager .sizes) (now table) (now segments) (now «frame_counts») (now «place_counts») ⌝ }
+    requires lookers { ⌜ length (now lookers) ≡ manager .sizes .segments ⌝ }
+    ensures { λ r. ⌜ ((used frames disk : List ℕ) → Serves manager (lent (now (table .entry)) (now (segments .entry)) (now (lookers .entry)) (now («frame_counts» .entry)) used (now («place_counts» .entry)) frames disk) (fold.leave process) r (lent (now (table .exit)) (now (segments .exit)) (now (lookers .exit)) (now («frame_counts» .exit)) used (now («place_counts» .exit)) frames disk)) ⌝ }
+{
+    if !manager.is_alive(process) {
+        return (manager, Answer::Fault);
+    }
+    drop_row(
+        manager,
+        table,
+        segments,
+        lookers,
+        frame_counts,
+        place_counts,
+        process,
+    );
+    let manager = settle(manager, table, segments, frame_counts, place_counts);
+    let manager = manager.with_alive(process, false);
+    (manager, Answer::Done(0))
+}

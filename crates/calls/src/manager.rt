@@ -3,7 +3,7 @@ ghost use mathlib.Core.Path.{_≡_};
 ghost use mathlib.Core.Bool.{true, false, _&&_};
 ghost use Prim.Native.Nat.{_<_};
 ghost use lib.Dec.{ltb};
-ghost use lib.ListN.{getD, take};
+ghost use lib.ListN.{getD, set, take};
 ghost use Rattle.std.specs.Options.{Cases};
 ghost use Rattle.requests.specs.Ranges.{In-range, ranged};
 ghost use Rattle.calls.specs.Machine.{lowest-absent};
@@ -50,5 +50,24 @@ impl Manager {
             }
         }
         None
+    }
+
+    // The record once a process has come or gone.
+    pub(crate) fn with_alive(self, process: usize, there: bool) -> Manager
+        requires { ⌜ process < 16 ⌝ }
+        ensures { λ r. ⌜ r ≡ record { sizes = self .sizes; alive = set (self .alive) process there; registers = self .registers } ⌝ }
+    {
+        let Manager {
+            sizes,
+            alive,
+            registers,
+        } = self;
+        let mut alive = alive;
+        alive[process] = there;
+        Manager {
+            sizes,
+            alive,
+            registers,
+        }
     }
 }
