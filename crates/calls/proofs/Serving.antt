@@ -1,14 +1,16 @@
 -- From what the parts of a call leave to what the call leaves.
 use mathlib.Core.Bool.{Bool, true, false, cond, _&&_, not}
-use mathlib.Core.List.{List}
+use mathlib.Core.List.{List, [], _++_}
 use mathlib.Core.Path.{_≡_, refl, sym, ap, _∙_}
 use Prim.Native.Nat.{ℕ, _<_}
 use native.Mathlib.Omega.{arith}
-use lib.ListN.{set}
+use lib.ListN.{getD, set}
 use lib.Seq.{take-set-lt}
 use Rattle.std.specs.declared.option.Option.{Option}
 use Rattle.std.specs.declared.option.Option.the-variants.{Some, None}
 use Rattle.fold.specs.Fold as fold
+use Rattle.frames.specs.Cut.{cut, row, stored}
+use Rattle.frames.proofs.Cut.{cut-length}
 use Rattle.requests.specs.Meaning.{answered, seen-sizes}
 use Rattle.requests.specs.Ranges.{In-range, ranged}
 use Rattle.requests.specs.declared.answer.Answer.{Answer}
@@ -16,6 +18,7 @@ use Rattle.requests.specs.declared.answer.Answer.the-variants.{Done, Fault, Ful
 use Rattle.requests.specs.declared.sizes.Sizes.{Sizes}
 use Rattle.tables.specs.Cells.{Few}
 use Rattle.tables.specs.State.{Lent, State, view}
+use Rattle.tables.proofs.Locations.{at-frame, put-frame}
 use Rattle.calls.specs.declared.manager.Manager.{Manager}
 use Rattle.calls.specs.Calls.{calls, changed, with-alive}
 use Rattle.calls.specs.Machine.{Machine}
@@ -47,3 +50,16 @@ with-alive-machine g r m p there e h =
 pub no-some : {X : Type 0} (o : Option X) → ((x : X) → o ≡ Some x → ⊥) → o ≡ None
 no-some None n = refl
 no-some (Some x) n = absurd (n x refl)
+
+-- a byte of a frame, in the space of all locations
+pub frame-byte : (frames places : ℕ) (bytes disk : List ℕ) (f o : ℕ) → f < frames → getD (row (cut 256 frames bytes) f) o 0 ≡ getD (row (cut 256 frames bytes ++ cut 256 places disk) f) o 0
+frame-byte frames places bytes disk f o h =
+    ap (λ (ws : List ℕ). getD ws o 0) (sym (at-frame (cut 256 frames bytes) (cut 256 places disk) frames (cut-length 256 frames bytes) f [] h))
+
+pub frame-stored : (frames places : ℕ) (bytes after disk : List ℕ) (f o b : ℕ) → f < frames → cut 256 frames after ≡ stored (cut 256 frames bytes) f o b →
+    cut 256 frames after ++ cut 256 places disk ≡ stored (cut 256 frames bytes ++ cut 256 places disk) f o b
+frame-stored frames places bytes after disk f o b h e =
+    let ps = cut 256 frames bytes in
+    let ds = cut 256 places disk in
+    let long = cut-length 256 frames bytes in
+    ap (λ (xs : List (List ℕ)). xs ++ ds) e ∙ put-frame ps ds frames long f (set (row ps f) o b) h ∙ ap (λ (ws : List ℕ). set (ps ++ ds) f (set ws o b)) (sym (at-frame ps ds frames long f [] h))

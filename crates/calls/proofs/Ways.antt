@@ -78,18 +78,31 @@ module _ (choose : Choice) (z : Sizes) (m : Machine) where
         let h = and-parts (inside z m p v) (not (is-there (holds m p v))) e in
         cond-true _ _ _ (and-from (inside z m p v) _ (h .0) (and-from (not (is-there (holds m p v))) (inside z m q u) (h .1) f))
 
-    pub load-fault : (o : ℕ) → (inside z m p v && ltb o (z .words)) ≡ false → calls-by choose z m (load p v o) ≡ (m, fault)
+    -- A load or a store makes two tests: the page may be asked for, and so may the byte.
+    abbrev Reaches : ℕ → Bool → Type 0
+    Reaches o b = (inside z m p v && ltb o (z .words)) ≡ b
+
+    pub not-inside : (o : ℕ) → inside z m p v ≡ false → Reaches o false
+    not-inside o e = and-left (inside z m p v) (ltb o (z .words)) e
+
+    pub past-the-end : (o : ℕ) → ltb o (z .words) ≡ false → Reaches o false
+    past-the-end o e = and-right (inside z m p v) (ltb o (z .words)) e
+
+    pub reaches : (o : ℕ) → inside z m p v ≡ true → ltb o (z .words) ≡ true → Reaches o true
+    reaches o e f = and-from (inside z m p v) (ltb o (z .words)) e f
+
+    pub load-fault : (o : ℕ) → Reaches o false → calls-by choose z m (load p v o) ≡ (m, fault)
     unfolding calls-by
     load-fault o e = cond-false _ _ _ e
 
-    pub load-goes : (o : ℕ) → (inside z m p v && ltb o (z .words)) ≡ true → calls-by choose z m (load p v o) ≡ load-by choose m p v o (slot-found m p v)
+    pub load-goes : (o : ℕ) → Reaches o true → calls-by choose z m (load p v o) ≡ load-by choose m p v o (slot-found m p v)
     unfolding calls-by
     load-goes o e = cond-true _ _ _ e
 
-    pub store-fault : (o x : ℕ) → (inside z m p v && ltb o (z .words)) ≡ false → calls-by choose z m (store p v o x) ≡ (m, fault)
+    pub store-fault : (o x : ℕ) → Reaches o false → calls-by choose z m (store p v o x) ≡ (m, fault)
     unfolding calls-by
     store-fault o x e = cond-false _ _ _ e
 
-    pub store-goes : (o x : ℕ) → (inside z m p v && ltb o (z .words)) ≡ true → calls-by choose z m (store p v o x) ≡ store-by choose m p v o x (slot-found m p v)
+    pub store-goes : (o x : ℕ) → Reaches o true → calls-by choose z m (store p v o x) ≡ store-by choose m p v o x (slot-found m p v)
     unfolding calls-by
     store-goes o x e = cond-true _ _ _ e

@@ -98,8 +98,11 @@ load-walked choose m p v o free nowhere = (m, fault)
 load-walked choose m p v o free blank = (m, done 0)
 load-walked choose m p v o free (lies x) = load-reached m p v o free (reached choose (m .frames) (m .whole) x)
 
+abbrev pub walked-load : Choice → Machine → ℕ → ℕ → ℕ → Machine × Answer
+walked-load choose m p v o = load-walked choose m p v o (walk (m .whole .state) p v .free) (walk (m .whole .state) p v .spot)
+
 abbrev pub load-by : Choice → Machine → ℕ → ℕ → ℕ → Option Slot → Machine × Answer
-load-by choose m p v o None = load-walked choose m p v o (walk (m .whole .state) p v .free) (walk (m .whole .state) p v .spot)
+load-by choose m p v o None = walked-load choose m p v o
 load-by choose m p v o (Some s) = load-hit m o s
 
 -- A store whose slot is found, and says that it needs no copy, reads no page table.
@@ -119,16 +122,25 @@ abbrev pub segment-stored : Machine → ℕ → ℕ → Whole → Option Taken �
 segment-stored m p v w None = (with-whole m w, fault)
 segment-stored m p v w (Some t) = stored-in m p v w (t .frame)
 
+abbrev pub own-store : Choice → Machine → ℕ → ℕ → ℕ → ℕ → Machine × Answer
+own-store choose m p v o b = let r = stored-own choose (m .frames) (m .whole) p v o b in own-stored m p v (r .0) (r .1)
+
+abbrev pub segment-store : Choice → Machine → ℕ → ℕ → ℕ → ℕ → Machine × Answer
+segment-store choose m p v o b = let r = stored-to-segment choose (m .frames) (m .whole) p v o b in segment-stored m p v (r .0) (r .1)
+
 -- Any other store looks at the entry.
 abbrev pub store-walked : Choice → Machine → ℕ → ℕ → ℕ → ℕ → Held → Machine × Answer
 store-walked choose m p v o b nothing = (m, fault)
-store-walked choose m p v o b zeros = let r = stored-own choose (m .frames) (m .whole) p v o b in own-stored m p v (r .0) (r .1)
-store-walked choose m p v o b (at x) = let r = stored-own choose (m .frames) (m .whole) p v o b in own-stored m p v (r .0) (r .1)
-store-walked choose m p v o b (segment s) = let r = stored-to-segment choose (m .frames) (m .whole) p v o b in segment-stored m p v (r .0) (r .1)
+store-walked choose m p v o b zeros = own-store choose m p v o b
+store-walked choose m p v o b (at x) = own-store choose m p v o b
+store-walked choose m p v o b (segment s) = segment-store choose m p v o b
+
+abbrev pub walked-store : Choice → Machine → ℕ → ℕ → ℕ → ℕ → Machine × Answer
+walked-store choose m p v o b = store-walked choose m p v o b (holds m p v)
 
 abbrev pub store-by : Choice → Machine → ℕ → ℕ → ℕ → ℕ → Option Slot → Machine × Answer
-store-by choose m p v o b None = store-walked choose m p v o b (holds m p v)
-store-by choose m p v o b (Some s) = cond (s .free) (store-hit m o b s) (store-walked choose m p v o b (holds m p v))
+store-by choose m p v o b None = walked-store choose m p v o b
+store-by choose m p v o b (Some s) = cond (s .free) (store-hit m o b s) (walked-store choose m p v o b)
 
 -- the slot of page v of p, if the look-aside table has it
 abbrev pub slot-found : Machine → ℕ → ℕ → Option Slot

@@ -86,14 +86,7 @@ pub(crate) fn fork(
     let Some(child) = manager.lowest_absent() else {
         return (manager, Answer::Full);
     };
-    raise_row(
-        manager,
-        table,
-        lookers,
-        frame_counts,
-        place_counts,
-        process,
-    );
+    raise_row(manager, table, lookers, frame_counts, place_counts, process);
     let limits = limits!(manager.sizes);
     let pages = manager.sizes.pages;
     table::copy_row(table, limits, pages, process, child);

@@ -1,5 +1,9 @@
 // The memory manager: it is opened over lent memory, and answers calls.
 mod entries;
 mod family;
+mod load;
 pub mod manager;
 mod page;
+mod segment;
+mod slot;
+mod store;
