@@ -142,6 +142,11 @@ abbrev pub store-by : Choice → Machine → ℕ → ℕ → ℕ → ℕ → Opt
 store-by choose m p v o b None = walked-store choose m p v o b
 store-by choose m p v o b (Some s) = cond (s .free) (store-hit m o b s) (walked-store choose m p v o b)
 
+-- a slot that says that a store needs no copy
+abbrev pub free-slot : Option Slot → Option Slot
+free-slot None = None
+free-slot (Some s) = cond (s .free) (Some s) None
+
 -- the slot of page v of p, if the look-aside table has it
 abbrev pub slot-found : Machine → ℕ → ℕ → Option Slot
 slot-found m p v = find-slot (m .whole .slots) (m .frames) p v

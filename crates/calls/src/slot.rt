@@ -4,7 +4,7 @@ ghost use Prim.Native.Nat.{_<_};
 ghost use Rattle.std.specs.Options.{Cases};
 ghost use Rattle.tables.specs.State.{Lent};
 ghost use Rattle.lookaside.specs.Slots.{find-slot};
-ghost use Rattle.calls.specs.Calls.{remembered};
+ghost use Rattle.calls.specs.Calls.{free-slot, remembered};
 ghost use Rattle.calls.specs.Machine.{with-whole};
 ghost use Rattle.calls.specs.Memory.{machine};
 use crate::manager::Manager;
@@ -18,6 +18,15 @@ pub(crate) fn slot_of(manager: Manager, process: usize, page: usize) -> Option<S
 {
     let Registers { lookaside, .. } = manager.registers;
     lookaside.find(manager.sizes.frames, process, page)
+}
+
+// The slot of a page, if the look-aside table has it and says that a store needs no copy.
+pub(crate) fn free_slot_of(manager: Manager, process: usize, page: usize) -> Option<Slot>
+    ensures value { λ r. ⌜ r ≡ free-slot (find-slot (manager .registers .lookaside .slots) (manager .sizes .frames) process page) ⌝ }
+    ensures within { λ r. ⌜ Cases r (Unit {0}) (λ s. s .frame < manager .sizes .frames) ⌝ }
+{
+    let slot = slot_of(manager, process, page)?;
+    if slot.free { Some(slot) } else { None }
 }
 
 // The record once the look-aside table knows where a page lies.

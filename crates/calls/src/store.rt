@@ -15,8 +15,8 @@ ghost use Rattle.calls.specs.Memory.{limits-of, machine, Serves};
 use crate::manager::Manager;
 use crate::page::limits;
 use crate::page::target_of;
+use crate::slot::free_slot_of;
 use crate::slot::remember;
-use crate::slot::slot_of;
 use copies::own;
 use frames::hand::mark;
 use frames::memory;
@@ -179,5 +179,105 @@ fn store_segment(
     match reached {
         Some(taken) => wrote(manager, used, process, page, taken.frame),
         None => (manager, Answer::Fault),
+    }
+}
+
+// Stores by the page table.
+fn store_walked(
+    manager: Manager,
+    table: &mut [u16],
+    segments: &mut [u16],
+    frame_counts: &mut [u16],
+    used: &mut [u16],
+    place_counts: &mut [u16],
+    frames: &mut [u8],
+    disk: &mut [u8],
+    process: usize,
+    page: usize,
+    offset: usize,
+    byte: u8,
+) -> (Manager, Answer)
+    requires range { ⌜ In-range (ranged (manager .sizes)) ⌝ }
+    requires exact { ⌜ Exact (limits-of (manager .sizes)) (manager .sizes .pages) (manager .sizes .processes) (now table) (now segments) (now «frame_counts») (now used) (now «place_counts») (now frames) (now disk) ⌝ }
+    requires process_within { ⌜ process < manager .sizes .processes ⌝ }
+    requires page_within { ⌜ page < manager .sizes .pages ⌝ }
+    requires offset_within { ⌜ offset < 256 ⌝ }
+    ensures same { λ r. ⌜ r .0 .sizes ≡ manager .sizes ⌝ }
+    ensures value { λ r. ⌜ ((lookers : List ℕ) → _≡_ {A = Machine × fold.Answer} (machine (r .0) (lent (now (table .exit)) (now (segments .exit)) lookers (now («frame_counts» .exit)) (now (used .exit)) (now («place_counts» .exit)) (now (frames .exit)) (now (disk .exit))), answered (r .1)) (walked-store turn (machine manager (lent (now (table .entry)) (now (segments .entry)) lookers (now («frame_counts» .entry)) (now (used .entry)) (now («place_counts» .entry)) (now (frames .entry)) (now (disk .entry)))) process page offset byte)) ⌝ }
+{
+    match target_of(manager, table, process, page) {
+        Target::Absent => (manager, Answer::Fault),
+        Target::Segment(_) => store_segment(
+            manager,
+            table,
+            segments,
+            frame_counts,
+            used,
+            place_counts,
+            frames,
+            disk,
+            process,
+            page,
+            offset,
+            byte,
+        ),
+        Target::Zero | Target::Frame(_) | Target::Place(_) => store_own(
+            manager,
+            table,
+            segments,
+            frame_counts,
+            used,
+            place_counts,
+            frames,
+            disk,
+            process,
+            page,
+            offset,
+            byte,
+        ),
+    }
+}
+
+// Stores a byte to a page.
+pub(crate) fn store(
+    manager: Manager,
+    table: &mut [u16],
+    segments: &mut [u16],
+    frame_counts: &mut [u16],
+    used: &mut [u16],
+    place_counts: &mut [u16],
+    frames: &mut [u8],
+    disk: &mut [u8],
+    process: usize,
+    page: usize,
+    offset: usize,
+    byte: u8,
+) -> (Manager, Answer)
+    requires range { ⌜ In-range (ranged (manager .sizes)) ⌝ }
+    requires exact { ⌜ Exact (limits-of (manager .sizes)) (manager .sizes .pages) (manager .sizes .processes) (now table) (now segments) (now «frame_counts») (now used) (now «place_counts») (now frames) (now disk) ⌝ }
+    ensures { λ r. ⌜ ((lookers : List ℕ) → Serves manager (lent (now (table .entry)) (now (segments .entry)) lookers (now («frame_counts» .entry)) (now (used .entry)) (now («place_counts» .entry)) (now (frames .entry)) (now (disk .entry))) (fold.store process page offset byte) r (lent (now (table .exit)) (now (segments .exit)) lookers (now («frame_counts» .exit)) (now (used .exit)) (now («place_counts» .exit)) (now (frames .exit)) (now (disk .exit)))) ⌝ }
+{
+    if !manager.has(process, page) {
+        return (manager, Answer::Fault);
+    }
+    if offset >= 256 {
+        return (manager, Answer::Fault);
+    }
+    match free_slot_of(manager, process, page) {
+        Some(slot) => store_hit(manager, used, frames, slot, offset, byte),
+        None => store_walked(
+            manager,
+            table,
+            segments,
+            frame_counts,
+            used,
+            place_counts,
+            frames,
+            disk,
+            process,
+            page,
+            offset,
+            byte,
+        ),
     }
 }
