@@ -11,7 +11,8 @@ use Rattle.std.specs.declared.option.Option.the-variants.{Some, None}
 use Rattle.fold.specs.Fold as fold
 use Rattle.frames.specs.Cut.{cut, row, stored}
 use Rattle.frames.proofs.Cut.{cut-length}
-use Rattle.requests.specs.Meaning.{answered, seen-sizes}
+use Rattle.requests.specs.Meaning as asks
+use Rattle.requests.specs.Meaning.{Asked, answered, seen-sizes}
 use Rattle.requests.specs.Ranges.{In-range, ranged}
 use Rattle.requests.specs.declared.answer.Answer.{Answer}
 use Rattle.requests.specs.declared.answer.Answer.the-variants.{Done, Fault, Full}
@@ -22,7 +23,7 @@ use Rattle.tables.proofs.Locations.{at-frame, put-frame}
 use Rattle.calls.specs.declared.manager.Manager.{Manager}
 use Rattle.calls.specs.Calls.{calls, changed, with-alive}
 use Rattle.calls.specs.Machine.{Machine}
-use Rattle.calls.specs.Memory.{Serves, limits-of, machine}
+use Rattle.calls.specs.Memory.{Served, Serves, limits-of, machine, serve}
 
 -- a call that is refused leaves all as it was
 pub refused : (g : Manager) (m : Lent) (c : fold.Call) (a : Answer) → calls (seen-sizes (g .sizes)) (machine g m) c ≡ (machine g m, answered a) → Serves g m c (g, a) m
@@ -63,3 +64,7 @@ frame-stored frames places bytes after disk f o b h e =
     let ds = cut 256 places disk in
     let long = cut-length 256 frames bytes in
     ap (λ (xs : List (List ℕ)). xs ++ ds) e ∙ put-frame ps ds frames long f (set (row ps f) o b) h ∙ ap (λ (ws : List ℕ). set (ps ++ ds) f (set ws o b)) (sym (at-frame ps ds frames long f [] h))
+
+-- a call that was served is what the request asked for
+pub of-call : (g : Manager) (m : Lent) (r : Manager × Answer) (after : Lent) (k : fold.Call) (a : Asked) → a ≡ asks.calls k → Serves g m k r after → Served g m a r after
+of-call g m r after k a e h = record { same = h .same; served = h .serves ∙ ap (serve (seen-sizes (g .sizes)) (machine g m)) (sym e) }

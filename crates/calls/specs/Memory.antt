@@ -6,7 +6,7 @@ use Prim.Native.Nat.{ℕ, _*_}
 use lib.Dec.{ltb}
 use lib.ListN.{length, getD, take}
 use Rattle.fold.specs.Fold as fold
-use Rattle.requests.specs.Meaning.{answered, seen-sizes}
+use Rattle.requests.specs.Meaning.{Asked, answered, calls, counts, seen-sizes}
 use Rattle.requests.specs.Ranges.{In-range, ranged}
 use Rattle.requests.specs.declared.answer.Answer.{Answer}
 use Rattle.requests.specs.declared.sizes.Sizes.{Sizes}
@@ -16,7 +16,8 @@ use Rattle.tables.specs.Rows.{entry-of, rows}
 use Rattle.tables.specs.State.{Lent}
 use Rattle.disk.specs.Whole.{whole}
 use Rattle.calls.specs.declared.manager.Manager.{Manager}
-use Rattle.calls.specs.Calls.{calls}
+use Rattle.calls.specs.Calls as rule
+use Rattle.calls.specs.Calls.{counts-answer}
 use Rattle.calls.specs.Machine.{Machine}
 
 abbrev pub limits-of : Sizes → Limits
@@ -34,7 +35,7 @@ machine g m =
 -- the answer, the record and lent memory are then those of the call
 pub record Serves (g : Manager) (m : Lent) (c : fold.Call) (r : Manager × Answer) (after : Lent) : Type 0 where
   pub same : r .0 .sizes ≡ g .sizes
-  pub serves : _≡_ {A = Machine × fold.Answer} (machine (r .0) after, answered (r .1)) (calls (seen-sizes (g .sizes)) (machine g m) c)
+  pub serves : _≡_ {A = Machine × fold.Answer} (machine (r .0) after, answered (r .1)) (rule.calls (seen-sizes (g .sizes)) (machine g m) c)
 
 -- sizes in range, and tables that are exactly as long as they say
 pub record Fits (z : Sizes) (table segments frame-counts place-counts : List ℕ) : Type 0 where
@@ -51,3 +52,12 @@ table-holds z table p v = entry-of (rows (limits-of z) (z .pages) (z .processes)
 -- page v of p may be asked for, by the record
 abbrev pub record-inside : Manager → ℕ → ℕ → Bool
 record-inside g p v = getD (take (g .sizes .processes) (g .alive)) p false && ltb v (g .sizes .pages)
+
+-- what the manager answers to what was asked: a call, or the counts of reads and writes, which changes nothing
+abbrev pub serve : fold.Sizes → Machine → Asked → Machine × fold.Answer
+serve z m (calls k) = rule.calls z m k
+serve z m counts = (m, counts-answer m)
+
+pub record Served (g : Manager) (m : Lent) (a : Asked) (r : Manager × Answer) (after : Lent) : Type 0 where
+  pub same : r .0 .sizes ≡ g .sizes
+  pub served : _≡_ {A = Machine × fold.Answer} (machine (r .0) after, answered (r .1)) (serve (seen-sizes (g .sizes)) (machine g m) a)

@@ -5,5 +5,6 @@ mod load;
 pub mod manager;
 mod page;
 mod segment;
+mod serve;
 mod slot;
 mod store;
