@@ -3,6 +3,7 @@ pub mod Hits
 pub mod Load
 pub mod Marks
 pub mod Moves
+pub mod Puts
 pub mod Reaching
 pub mod Room
 pub mod Sim
