@@ -1,4 +1,5 @@
 pub mod Begin
+pub mod Bytes
 pub mod Hits
 pub mod Load
 pub mod Marks
