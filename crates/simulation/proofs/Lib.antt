@@ -8,6 +8,7 @@ pub mod Puts
 pub mod Reaching
 pub mod Room
 pub mod Sim
+pub mod Storing
 pub mod Sums
 pub mod Taking
 pub mod Users

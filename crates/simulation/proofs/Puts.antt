@@ -229,6 +229,14 @@ module _ (z : Sizes) (lab : ℕ → ℕ) (m : Machine) (w : World) (sim : Sim z 
         idle = sim .idle;
       }
 
+  -- where it lay there already, every entry names what it named
+  pub put-same : holds m p v ≡ at f → (q u : ℕ) → holds then q u ≡ holds m q u
+  put-same e q u =
+      elim (this-page p v q u) [
+        | inl k ↦ here-holds q u k ∙ sym e ∙ (λ i. holds m (sym (k .0) i) (sym (k .1) i))
+        | inr d ↦ other-holds q u d
+      ]
+
   -- and a walk finds it there, with nobody else
   pub put-walk : walk (state then) p v ≡ record { spot = lies f; free = true }
   put-walk =
