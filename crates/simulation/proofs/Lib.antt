@@ -1,3 +1,4 @@
+pub mod Anew
 pub mod Begin
 pub mod Bytes
 pub mod Hits

@@ -29,7 +29,7 @@ stored-so z lab m w sim all p v f is within =
     record { lab = lab; sim = remembered-sim z lab m w sim p v f true; slots = remembered-true m p v f true all is within; same = refl }
 
 -- an own page has one label and one row of bytes
-own-same : {l n : ℕ} {ws us : List ℕ} → own l ws ≡ own n us → (l ≡ n) × (ws ≡ us)
+pub own-same : {l n : ℕ} {ws us : List ℕ} → own l ws ≡ own n us → (l ≡ n) × (ws ≡ us)
 own-same e = (cc, cc)
 
 -- the page as the private machine has it, with the byte stored
