@@ -1,9 +1,9 @@
 -- A store that needs a page of its own: full where all is used up, else in a frame that nobody had, under a new label.
-use mathlib.Core.Bool.{Bool, true, false, cond}
-use mathlib.Core.List.{List, []}
+use mathlib.Core.Bool.{true, false, cond}
+use mathlib.Core.List.{List}
 use mathlib.Core.Logic.{inl, inr}
 use mathlib.Core.Path.{_≡_, refl, sym, ap, subst, _∙_}
-use Prim.Native.Nat.{ℕ, suc, _≤_, _<_}
+use Prim.Native.Nat.{ℕ, suc, _<_}
 use native.Mathlib.Omega.{arith}
 use lib.Dec.{leb, ltb}
 use lib.ListN.{getD, replicate, set}
@@ -31,7 +31,7 @@ use Rattle.simulation.proofs.Puts.{Put, copy-put, put-sim, put-state, put-walk
 use Rattle.simulation.proofs.Room.{full-used-up, used-up-full}
 use Rattle.simulation.proofs.Sim.{Sim, Slots-true, see, state}
 use Rattle.simulation.proofs.Storing.{own-same, stored-so}
-use Rattle.simulation.proofs.Taking.{Took, Usable, settled-true, taken}
+use Rattle.simulation.proofs.Taking.{Usable, settled-true, taken}
 
 -- frame f is free: it becomes the page's own
 module _ (z : Sizes) (lab : ℕ → ℕ) (m : Machine) (w : World) (sim : Sim z lab m w) (p v o b f : ℕ) (alive : living m p ≡ true) (range : v < z .pages)

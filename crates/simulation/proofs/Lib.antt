@@ -9,6 +9,7 @@ pub mod Puts
 pub mod Reaching
 pub mod Room
 pub mod Sim
+pub mod Store
 pub mod Storing
 pub mod Sums
 pub mod Taking

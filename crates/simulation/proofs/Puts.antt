@@ -1,5 +1,5 @@
 -- An own page comes to lie at a location that nobody else names, with other bytes: nobody else sees it.
-use mathlib.Core.Bool.{Bool, true, false, cond}
+use mathlib.Core.Bool.{true, cond}
 use mathlib.Core.List.{List, []}
 use mathlib.Core.Logic.{_≢_, _⊎_, inl, inr}
 use mathlib.Core.Path.{_≡_, refl, sym, ap, subst, _∙_}
@@ -10,7 +10,7 @@ use lib.ListN.{length, getD, set}
 use Rattle.std.proofs.shelf.Lists.{getD-set-other, getD-set-same, length-set}
 use Rattle.std.proofs.shelf.Tests.{cases-eq, cond-false, cond-true, eq-eqb, le-leb, ne-eqb}
 use Rattle.std.specs.declared.option.Option.{Option}
-use Rattle.fold.specs.Fold.{Page, Process, Sizes, World, own, page, process, with-page}
+use Rattle.fold.specs.Fold.{Process, Sizes, World, own, page, with-page}
 use Rattle.fold.proofs.Pages.{alive-below, alive-with-page, page-other, page-put, same-pages, same-process, width-with-page}
 use Rattle.frames.specs.Counts.{counted-down, counted-up}
 use Rattle.frames.specs.Cut.{row}

@@ -1,16 +1,16 @@
 -- A store where the page is in a frame that nobody else has: in place, and in a segment.
-use mathlib.Core.Bool.{Bool, true, false, cond}
+use mathlib.Core.Bool.{true}
 use mathlib.Core.List.{List, []}
 use mathlib.Core.Path.{_≡_, refl, sym, ap, subst, _∙_}
 use Prim.Native.Nat.{ℕ, _≤_, _<_}
 use lib.ListN.{getD, set}
 use Rattle.std.proofs.shelf.Lists.{set-getD}
-use Rattle.fold.specs.Fold.{Answer, Page, Sizes, World, done, own, page, with-page}
+use Rattle.fold.specs.Fold.{Page, Sizes, World, done, own, page, with-page}
 use Rattle.fold.proofs.Ways.{segment as bytes-of, with-segment}
 use Rattle.frames.specs.Cut.{row, stored}
-use Rattle.tables.specs.Cells.{Held, Cell, none, at}
+use Rattle.tables.specs.Cells.{Cell, none, at}
 use Rattle.tables.specs.Rows.{entry-of, with-entry}
-use Rattle.tables.specs.State.{State, lies, walk, walked, with-pages, with-rows}
+use Rattle.tables.specs.State.{lies, walk, walked, with-pages, with-rows}
 use Rattle.lookaside.specs.Purge.{answered-so}
 use Rattle.copies.specs.Own.{with-state}
 use Rattle.copies.specs.Stores.{own-cell, stored-in-place}
