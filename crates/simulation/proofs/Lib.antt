@@ -1,5 +1,7 @@
 pub mod Begin
+pub mod Entries
 pub mod Room
 pub mod Sim
+pub mod Step
 pub mod Sums
 pub mod Users
