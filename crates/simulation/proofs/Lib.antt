@@ -1,5 +1,6 @@
 pub mod Begin
 pub mod Entries
+pub mod Entry_calls
 pub mod Naming
 pub mod Room
 pub mod Sim

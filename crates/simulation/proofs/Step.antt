@@ -1,11 +1,13 @@
 -- What one call has to keep: the relation and the true slots, with the same answer. And what Sim does not look at.
-use mathlib.Core.Bool.{Bool}
+use mathlib.Core.Bool.{Bool, true, false, cond}
 use mathlib.Core.List.{List, []}
+use mathlib.Core.Logic.{inl, inr}
 use mathlib.Core.Path.{_≡_, refl, sym, ap, subst, _∙_}
 use Prim.Native.Nat.{ℕ, _<_}
 use native.Mathlib.Omega.{arith}
 use lib.ListN.{length, getD}
-use Rattle.fold.specs.Fold.{Sizes, World, Call, Answer, call, process, page}
+use Rattle.std.proofs.shelf.Tests.{cases-bool, cond-true, cond-false}
+use Rattle.fold.specs.Fold.{Sizes, World, Call, Answer, fault, call, process, page}
 use Rattle.tables.specs.State.{State}
 use Rattle.lookaside.proofs.Laws.{purged-is-true}
 use Rattle.disk.specs.Whole.{Choice}
@@ -34,6 +36,16 @@ step-by choose z m w c m′ w′ a lab e f sim slots =
 pub refused : (choose : Choice) (z : Sizes) (m : Machine) (w : World) (c : Call) (a : Answer) (lab : ℕ → ℕ) → Sim z lab m w → Slots-true m → calls-by choose z m c ≡ (m, a) →
     call z w c ≡ (w, a) → Step choose z m w c
 refused choose z m w c a lab sim slots e f = step-by choose z m w c m w a lab e f sim slots
+
+-- A call that begins with a test, which both machines answer alike, is refused by both or goes on.
+pub by-test : (choose : Choice) (z : Sizes) (m : Machine) (w : World) (c : Call) (lab : ℕ → ℕ) → Sim z lab m w → Slots-true m → (b b′ : Bool) (r : Machine × Answer) (x : World × Answer) →
+    calls-by choose z m c ≡ cond b r (m, fault) → call z w c ≡ cond b′ x (w, fault) → b′ ≡ b → (b ≡ true → calls-by choose z m c ≡ r → call z w c ≡ x → Step choose z m w c) →
+    Step choose z m w c
+by-test choose z m w c lab sim slots b b′ r x e f same goes =
+    elim (cases-bool b) [
+      | inl t ↦ goes t (e ∙ cond-true b _ _ t) (f ∙ cond-true b′ _ _ (same ∙ t))
+      | inr n ↦ refused choose z m w c fault lab sim slots (e ∙ cond-false b _ _ n) (f ∙ cond-false b′ _ _ (same ∙ n))
+    ]
 
 -- after a purge every slot is true, whatever has changed
 pub changed-true : (m : Machine) (s : State) → Slots-true (changed m s)
