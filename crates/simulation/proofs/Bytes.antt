@@ -17,7 +17,7 @@ use Rattle.tables.specs.State.{with-pages}
 use Rattle.lookaside.specs.declared.slots.Slot.{Slot}
 use Rattle.calls.specs.Machine.{Machine, with-whole}
 use Rattle.calls.specs.Calls.{holds}
-use Rattle.simulation.proofs.Puts.{see-other}
+use Rattle.simulation.proofs.Entries.{see-same}
 use Rattle.simulation.proofs.Room.{segments-apart}
 use Rattle.simulation.proofs.Sim.{Lying, Sim, state}
 use Rattle.simulation.proofs.Users.{at-same, lies-alone, no-segment-there, segment-names}
@@ -65,8 +65,8 @@ module _ (z : Sizes) (lab : ℕ → ℕ) (m : Machine) (w : World) (sim : Sim z 
       ]
 
   -- no entry names f: the segment has it alone
-  unseen-there : (p v x : ℕ) → holds m p v ≡ at x → (x ≢ f) × (lab x ≡ lab x)
-  unseen-there p v x e = (λ same. omega (arith, no-segment-there sim p v f (e ∙ ap at same), segment-names sim s f here is), refl)
+  unnamed : (p v x : ℕ) → holds m p v ≡ at x → x ≢ f
+  unnamed p v x e same = omega (arith, no-segment-there sim p v f (e ∙ ap at same), segment-names sim s f here is)
 
   pub segment-sim : Sim z lab then world
   segment-sim =
@@ -94,7 +94,7 @@ module _ (z : Sizes) (lab : ℕ → ℕ) (m : Machine) (w : World) (sim : Sim z 
             };
         fresh = sim .fresh;
         alive = λ p. ap (λ (a : Process). a .alive) (same-process world w refl p) ∙ sim .alive p;
-        pages = λ p v. same-pages world w refl p v ∙ sim .pages p v ∙ see-other lab lab (state m .pages) f _ (holds m p v) (unseen-there p v);
+        pages = λ p v. same-pages world w refl p v ∙ sim .pages p v ∙ see-same lab lab (state m .pages) (state then .pages) (holds m p v) (λ x e. (refl, getD-set-other (state m .pages) f x _ [] (unnamed p v x e)));
         labels = sim .labels;
         apart = sim .apart;
         looks = sim .looks;

@@ -81,14 +81,14 @@ module _ {z : Sizes} {lab lab′ : ℕ → ℕ} {m m′ : Machine} {w w′ : Wor
   either : (q u : ℕ) → ((q ≡ p) × (u ≡ v)) ⊎ Other p v q u
   either q u = elim (cases-eq q p) [ inr n ↦ inr (λ a b. n a) | inl a ↦ elim (cases-eq u v) [ inl b ↦ inl (a, b) | inr n ↦ inr (λ _ b. n b) ] ]
 
-  holds-here : holds m′ p v ≡ c .holds
+  pub holds-here : holds m′ p v ≡ c .holds
   holds-here = ap (λ (rs : List (List Cell)). entry-of rs p v .holds) (e .rows) ∙ ap (λ (k : Cell). k .holds) (entry-put (state m .rows) p v c row-there column-there)
 
   holds-other : (q u : ℕ) → Other p v q u → holds m′ q u ≡ holds m q u
   holds-other q u n = ap (λ (rs : List (List Cell)). entry-of rs q u .holds) (e .rows) ∙ ap (λ (k : Cell). k .holds) (entry-other (state m .rows) p v q u c n)
 
   -- a fact about every entry, from the new one and the others
-  each : (P : ℕ → ℕ → Held → Type 0) → P p v (c .holds) → ((q u : ℕ) → Other p v q u → P q u (holds m q u)) → (q u : ℕ) → P q u (holds m′ q u)
+  pub each : (P : ℕ → ℕ → Held → Type 0) → P p v (c .holds) → ((q u : ℕ) → Other p v q u → P q u (holds m q u)) → (q u : ℕ) → P q u (holds m′ q u)
   each P here others q u =
       elim (either q u) [
         | inl is ↦ subst (λ n. P n u (holds m′ n u)) (sym (is .0)) (subst (λ n. P p n (holds m′ p n)) (sym (is .1)) (subst (P p v) (sym holds-here) here))
