@@ -19,7 +19,7 @@ use Rattle.calls.specs.Machine.{living, first}
 use Rattle.calls.specs.Calls.{holds}
 use Rattle.simulation.proofs.Sums.{over, over-member}
 use Rattle.simulation.proofs.Sim.{Shape, Sim, Slots-true, see, looks-at}
-use Rattle.simulation.proofs.Users.{nothing≢at, sumBy-none}
+use Rattle.simulation.proofs.Users.{nothing≢at, nothing≢segment, sumBy-none}
 
 others-wide : (pages n q : ℕ) → q < n → length (getD (others pages n) q nobody .pages) ≡ pages
 unfolding others
@@ -52,9 +52,6 @@ nothing-over f blank rows pages =
 
 none≢some : (s : Slot) → None ≡ Some s → ⊥
 none≢some s e = let z : _≡_ {A = ℕ} 0 1 = cc in omega arith
-
-nothing≢segment : (s : ℕ) → nothing ≡ segment s → ⊥
-nothing≢segment s e = let z : _≡_ {A = ℕ} 0 1 = cc in omega arith
 
 module _ (z : Sizes) (n frames places : ℕ) (words : z .words ≡ 256) (processes : z .processes ≡ suc n) (few : n < 16) (few-pages : z .pages ≤ 64)
     (few-segments : z .segments ≤ 16) (some : 1 ≤ frames) (hold : z .hold ≡ frames + places) where

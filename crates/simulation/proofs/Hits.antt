@@ -23,7 +23,7 @@ use Rattle.simulation.proofs.Moves.{named-counted}
 use Rattle.simulation.proofs.Sim.{Lying, Sim, Slots-true, looks-at, see, state}
 use Rattle.simulation.proofs.Sums.{over, over-below}
 
-spot : {a b : Walked} → a ≡ b → a .spot ≡ b .spot
+pub spot : {a b : Walked} → a ≡ b → a .spot ≡ b .spot
 spot e = ap (λ (a : Walked). a .spot) e
 
 lies-same : {x y : ℕ} → lies x ≡ lies y → x ≡ y
@@ -47,10 +47,10 @@ module _ (z : Sizes) (lab : ℕ → ℕ) (m : Machine) (w : World) (sim : Sim z 
     walks : (h : Held) → holds m p v ≡ h → walk (state m) p v ≡ walked (state m .segments) (state m .counts) h
     walks h e = ap (walked (state m .segments) (state m .counts)) e
 
-    walks-segment : (s : ℕ) (e : holds m p v ≡ segment s) → walk (state m) p v ≡ record { spot = lies (looked-lies p v s e .where-it-is); free = true }
+    pub walks-segment : (s : ℕ) (e : holds m p v ≡ segment s) → walk (state m) p v ≡ record { spot = lies (looked-lies p v s e .where-it-is); free = true }
     walks-segment s e = walks (segment s) e ∙ ap walked-segment (looked-lies p v s e .at-it)
 
-    sees : (h : Held) → holds m p v ≡ h → page w p v ≡ see lab (state m .pages) h
+    pub sees : (h : Held) → holds m p v ≡ h → page w p v ≡ see lab (state m .pages) h
     sees h e = sim .pages p v ∙ ap (see lab (state m .pages)) e
 
     -- a page that lies at x: x is there and named, and the bytes there are seen

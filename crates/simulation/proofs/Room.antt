@@ -134,7 +134,7 @@ module _ {z : Sizes} {lab : ℕ → ℕ} {m : Machine} {w : World} (sim : Sim z 
       (λ i j k a b. sim .apart (a .1) (a .2) (b .1) (b .2) j k (a .3) (b .3) (a .0 ∙ sym (b .0)))
 
   -- two segments never lie at one location: it would have two names
-  segments-apart : (s t x : ℕ) → s < z .segments → t < z .segments → getD (state m .segments) s none .holds ≡ at x → getD (state m .segments) t none .holds ≡ at x → s ≡ t
+  pub segments-apart : (s t x : ℕ) → s < z .segments → t < z .segments → getD (state m .segments) s none .holds ≡ at x → getD (state m .segments) t none .holds ≡ at x → s ≡ t
   segments-apart s t x h k e f =
       let one = lies-alone sim s x h e in
       let g : Cell → ℕ = λ c. names x (c .holds) in

@@ -69,6 +69,9 @@ looks-few s (segment t) = cond-few (eqb s t)
 pub nothing≢at : (x : ℕ) → nothing ≡ at x → ⊥
 nothing≢at x e = let z : _≡_ {A = ℕ} 0 1 = cc in omega arith
 
+pub nothing≢segment : (s : ℕ) → nothing ≡ segment s → ⊥
+nothing≢segment s e = let z : _≡_ {A = ℕ} 0 1 = cc in omega arith
+
 pub at-same : (x y : ℕ) → at x ≡ at y → x ≡ y
 at-same x y e = cc
 
