@@ -1,6 +1,7 @@
 pub mod Begin
 pub mod Entries
 pub mod Entry_calls
+pub mod Fork
 pub mod Naming
 pub mod Room
 pub mod Sim
