@@ -26,7 +26,7 @@ use Rattle.simulation.proofs.Sums.{entry-put, entry-other, holds-at}
 use Rattle.simulation.proofs.Sim.{Sim, Slots-true, state, see}
 use Rattle.simulation.proofs.Room.{process-same, no-process-left}
 use Rattle.simulation.proofs.Step.{Step, Alike, alike-sim, step-by, refused, by-test, changed-true}
-use Rattle.simulation.proofs.Entries.{living-below}
+use Rattle.simulation.proofs.Entries.{there-below}
 use Rattle.simulation.proofs.Naming.{at-state, changed-sim, held-known, attached, remarked}
 
 -- a process put twice
@@ -149,7 +149,7 @@ module _ {z : Sizes} {lab : ℕ → ℕ} {m : Machine} {w : World} (sim : Sim z 
       ]
     where
       below : parent < z .processes
-      below = omega (arith, living-below m parent there, sim .shape .alive)
+      below = there-below sim parent there
 
       row-there : parent < length (state m .rows)
       row-there = omega (arith, below, sim .shape .rows)
@@ -173,7 +173,7 @@ module _ {z : Sizes} {lab : ℕ → ℕ} {m : Machine} {w : World} (sim : Sim z 
   other e = both-ways (living m child) gone (ap (living m) (sym e) ∙ there)
 
   parent-below : parent < z .processes
-  parent-below = omega (arith, living-below m parent there, sim .shape .alive)
+  parent-below = there-below sim parent there
 
   -- the manager and the world once the child has its first n pages
   abbrev half : ℕ → State

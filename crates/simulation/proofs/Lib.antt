@@ -2,6 +2,7 @@ pub mod Begin
 pub mod Entries
 pub mod Entry_calls
 pub mod Fork
+pub mod Leave
 pub mod Naming
 pub mod Room
 pub mod Sim
