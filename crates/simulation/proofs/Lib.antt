@@ -3,6 +3,7 @@ pub mod Entries
 pub mod Entry_calls
 pub mod Fork
 pub mod Leave
+pub mod Make
 pub mod Naming
 pub mod Room
 pub mod Sim

@@ -52,7 +52,7 @@ changed-sim {z} {lab} {w} m s sim =
     sim
 
 -- one more, and one less, at i
-up-is : (cs : List ℕ) (i x : ℕ) → i < length cs → getD cs i 0 < 65535 → getD (counted-up cs i) x 0 ≡ getD cs x 0 + cond (eqb x i) 1 0
+pub up-is : (cs : List ℕ) (i x : ℕ) → i < length cs → getD cs i 0 < 65535 → getD (counted-up cs i) x 0 ≡ getD cs x 0 + cond (eqb x i) 1 0
 up-is cs i x h small =
     let one = counts-one cs i h in
     elim (cases-eq x i) [
