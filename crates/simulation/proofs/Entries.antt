@@ -17,7 +17,7 @@ use Rattle.disk.specs.Follows.{names, namers}
 use Rattle.calls.specs.Machine.{Machine, living}
 use Rattle.calls.specs.Calls.{holds}
 use Rattle.simulation.proofs.Sums.{over, over-put, entry-put, entry-other}
-use Rattle.simulation.proofs.Sim.{Shape, Lying, Sim, state, see, looks-at}
+use Rattle.simulation.proofs.Sim.{Lying, Sim, state, see, looks-at}
 use Rattle.simulation.proofs.Users.{at-same}
 
 -- another page than page v of p

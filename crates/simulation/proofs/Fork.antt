@@ -1,6 +1,6 @@
 -- A fork: the child is there first, without pages, and then names what its parent names, page by page.
 use mathlib.Core.Bool.{Bool, true, false, cond, not}
-use mathlib.Core.List.{List, []}
+use mathlib.Core.List.{List}
 use mathlib.Core.Logic.{_≢_, inl, inr}
 use mathlib.Core.Path.{_≡_, refl, sym, ap, subst, _∙_}
 use Prim.Native.Nat.{ℕ, zero, suc, _≤_, _<_}
@@ -8,11 +8,11 @@ use native.Mathlib.Omega.{arith}
 use lib.Dec.{leb}
 use lib.ListN.{length, getD, set, replicate}
 use Rattle.std.proofs.shelf.Lists.{length-set, length-replicate, getD-set-same, getD-set-other, set-set, ext-getD}
-use Rattle.std.proofs.shelf.Tests.{cases-eq, cases-lt, cond-true, cond-false, both-ways, le-leb, lt-leb}
+use Rattle.std.proofs.shelf.Tests.{cases-eq, cond-true, cond-false, both-ways, le-leb, lt-leb}
 use Rattle.std.specs.declared.option.Option.{Option}
 use Rattle.std.specs.declared.option.Option.the-variants.{Some, None}
-use Rattle.fold.specs.Fold.{Page, Process, Sizes, World, absent, own, seen, process, page, with-page, with-process, Answer, call, fork, done, full, first-free}
-use Rattle.fold.proofs.Pages.{page-of, page-is, page-with-process, process-either, process-put, process-other, repaged, with-page-is}
+use Rattle.fold.specs.Fold.{Page, Process, Sizes, World, absent, seen, process, page, with-page, with-process, Answer, call, fork, done, full, first-free}
+use Rattle.fold.proofs.Pages.{page-of, page-is, page-with-process, process-either, process-put, process-other, with-page-is}
 use Rattle.fold.proofs.Reach.{all-same}
 use Rattle.frames.specs.Cut.{row}
 use Rattle.tables.specs.Cells.{Held, Cell, nothing, zeros, at, segment, marked}
@@ -25,7 +25,7 @@ use Rattle.calls.specs.Pages.{raised, raised-row, forked}
 use Rattle.simulation.proofs.Sums.{entry-put, entry-other, holds-at}
 use Rattle.simulation.proofs.Sim.{Sim, Slots-true, state, see}
 use Rattle.simulation.proofs.Room.{process-same, no-process-left}
-use Rattle.simulation.proofs.Step.{Step, Alike, alike-sim, step-by, refused, by-test, changed-true}
+use Rattle.simulation.proofs.Step.{Step, alike-sim, step-by, refused, by-test, changed-true}
 use Rattle.simulation.proofs.Entries.{there-below}
 use Rattle.simulation.proofs.Naming.{at-state, changed-sim, held-known, attached, remarked}
 

@@ -1,11 +1,11 @@
 -- A process leaves: its pages are dropped one by one, and then it goes without pages.
 use mathlib.Core.Bool.{true, false}
 use mathlib.Core.Logic.{inl, inr}
-use mathlib.Core.Path.{_≡_, refl, sym, ap, subst, _∙_}
+use mathlib.Core.Path.{_≡_, refl, ap, subst, _∙_}
 use Prim.Native.Nat.{ℕ, zero, suc, _≤_, _<_}
 use native.Mathlib.Omega.{arith}
-use Rattle.std.proofs.shelf.Tests.{cases-eq, cases-lt}
-use Rattle.fold.specs.Fold.{Process, Sizes, World, absent, page, with-page, with-process, call, leave, done}
+use Rattle.std.proofs.shelf.Tests.{cases-eq}
+use Rattle.fold.specs.Fold.{Process, Sizes, World, absent, page, with-page, with-process, call, leave}
 use Rattle.fold.proofs.Pages.{page-put, page-with-page, with-page-is}
 use Rattle.fold.proofs.Sums.{stands}
 use Rattle.disk.specs.Whole.{Choice}

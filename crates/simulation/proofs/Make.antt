@@ -1,9 +1,9 @@
 -- A segment is made: both machines find the same segment and are full together, and it lies in the frame that was taken, all zeros.
 use mathlib.Core.Bool.{Bool, true, false, cond, _&&_, _||_, not}
 use mathlib.Core.List.{List, []}
-use mathlib.Core.Logic.{_≢_, _⊎_, inl, inr}
+use mathlib.Core.Logic.{_≢_, inl, inr}
 use mathlib.Core.Path.{_≡_, refl, sym, ap, subst, _∙_}
-use Prim.Native.Nat.{ℕ, _+_, _≤_, _<_}
+use Prim.Native.Nat.{ℕ, _+_, _<_}
 use native.Mathlib.Omega.{arith}
 use lib.Dec.{eqb, leb}
 use lib.ListN.{length, getD, set, replicate}
@@ -13,15 +13,14 @@ use Rattle.std.proofs.shelf.Tests.{cases-eq, cases-lt, cond-true, cond-false, n
 use Rattle.std.specs.Options.{Cases}
 use Rattle.std.specs.declared.option.Option.{Option}
 use Rattle.std.specs.declared.option.Option.the-variants.{Some, None}
-use Rattle.fold.specs.Fold.{Page, Sizes, World, Answer, absent, seen, page, there, with-page, call, make, done, full, held, lookers, first-segment}
+use Rattle.fold.specs.Fold.{Sizes, World, Answer, seen, there, with-page, call, make, done, full, held, lookers, first-segment}
 use Rattle.frames.specs.Counts.{counted-up, lowest-free}
 use Rattle.frames.proofs.Lowest.{lowest-is-free}
 use Rattle.frames.specs.Cut.{row}
-use Rattle.tables.specs.Cells.{Held, Cell, none, nothing, at, segment}
-use Rattle.tables.specs.State.{State}
+use Rattle.tables.specs.Cells.{Cell, none, nothing, at, segment}
 use Rattle.disk.specs.declared.registers.Taken.{Taken}
 use Rattle.disk.specs.Whole.{Choice, Whole, take-frame}
-use Rattle.disk.specs.Follows.{names, namers}
+use Rattle.disk.specs.Follows.{names}
 use Rattle.disk.proofs.Taking.{none-only-if-full}
 use Rattle.copies.specs.Stores.{own-cell}
 use Rattle.segments.specs.declared.make.Made.{Made}

@@ -1,34 +1,34 @@
 -- An absent page comes to name what another page names, or zeros, and a page is dropped: counts and lookers go with it.
-use mathlib.Core.Bool.{Bool, true, false, cond}
-use mathlib.Core.List.{List, []}
-use mathlib.Core.Logic.{_≢_, _⊎_, inl, inr}
+use mathlib.Core.Bool.{Bool, true, cond}
+use mathlib.Core.List.{List}
+use mathlib.Core.Logic.{_≢_, inl, inr}
 use mathlib.Core.Path.{_≡_, refl, sym, ap, subst, _∙_}
-use Prim.Native.Nat.{ℕ, _+_, _≤_, _<_}
+use Prim.Native.Nat.{ℕ, _+_, _<_}
 use native.Mathlib.Omega.{arith}
 use lib.Dec.{eqb}
 use lib.ListN.{length, getD, set}
 use Rattle.std.proofs.shelf.Lists.{length-set, getD-set-same, getD-set-other}
 use Rattle.std.proofs.shelf.Sums.{sumBy-set}
-use Rattle.std.proofs.shelf.Tests.{cases-lt, cases-eq, cases-bool, cond-true, cond-false, cond-both, eq-eqb, ne-eqb, eqb-true, eqb-false}
-use Rattle.fold.specs.Fold.{Page, Sizes, World, absent, page, with-page}
+use Rattle.std.proofs.shelf.Tests.{cases-lt, cases-eq, cond-true, cond-false, cond-both, eq-eqb, ne-eqb, eqb-true, eqb-false}
+use Rattle.fold.specs.Fold.{Sizes, World, absent, page, with-page}
 use Rattle.fold.proofs.Pages.{page-with-page}
 use Rattle.frames.specs.Counts.{counted-up, counted-down}
 use Rattle.frames.proofs.Lowest.{counts-one}
 use Rattle.tables.specs.Cells.{Held, Cell, none, nothing, zeros, at, segment}
-use Rattle.tables.specs.Rows.{entry-of, with-entry}
+use Rattle.tables.specs.Rows.{with-entry}
 use Rattle.tables.specs.State.{State, with-rows}
-use Rattle.disk.specs.Follows.{names, namers}
+use Rattle.disk.specs.Follows.{names}
 use Rattle.copies.specs.Own.{with-state}
 use Rattle.segments.specs.Release.{dropped, unnamed, given-back, lowered, with-lookers, with-segments}
 use Rattle.calls.specs.Machine.{Machine, living, with-whole}
 use Rattle.calls.specs.Calls.{holds, changed}
 use Rattle.calls.specs.Pages.{raised}
-use Rattle.simulation.proofs.Sums.{over, over-below}
-use Rattle.simulation.proofs.Sim.{Lying, Sim, state, see, looks-at}
-use Rattle.simulation.proofs.Users.{names-some, names-one, entry-names, no-segment-there, segment-names, lies-alone, count-small, lookers-small, nothing≢at, nothing≢segment}
+use Rattle.simulation.proofs.Sums.{over-below}
+use Rattle.simulation.proofs.Sim.{Sim, state, see, looks-at}
+use Rattle.simulation.proofs.Users.{names-some, entry-names, no-segment-there, segment-names, lies-alone, count-small, lookers-small, nothing≢at, nothing≢segment}
 use Rattle.simulation.proofs.Room.{segments-apart}
-use Rattle.simulation.proofs.Entries.{Entry-changed, entry-sim}
-use Rattle.simulation.proofs.Step.{Alike, alike-sim}
+use Rattle.simulation.proofs.Entries.{entry-sim}
+use Rattle.simulation.proofs.Step.{alike-sim}
 
 -- m with other tables, and all else as it is
 abbrev pub at-state : Machine → State → Machine
