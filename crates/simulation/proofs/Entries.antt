@@ -17,7 +17,7 @@ use Rattle.disk.specs.Follows.{names, namers}
 use Rattle.calls.specs.Machine.{Machine, living}
 use Rattle.calls.specs.Calls.{holds}
 use Rattle.simulation.proofs.Sums.{over, over-put, entry-put, entry-other}
-use Rattle.simulation.proofs.Sim.{Shape, Lying, Sim, state, see, looks-at}
+use Rattle.simulation.proofs.Sim.{Lying, Sim, state, see, looks-at}
 use Rattle.simulation.proofs.Users.{at-same}
 
 -- another page than page v of p
@@ -55,9 +55,12 @@ pub record Entry-changed (z : Sizes) (lab lab′ : ℕ → ℕ) (m m′ : Machin
   pub lying : (s : ℕ) → s < z .segments → 0 < getD (state m′ .lookers) s 0 → Lying z m′ w′ s
   pub idle : (s : ℕ) → s < z .segments → getD (state m′ .lookers) s 0 ≡ 0 → getD (state m′ .segments) s none .holds ≡ nothing
 
-pub living-below : (m : Machine) (p : ℕ) → living m p ≡ true → p < length (m .alive)
+living-below : (m : Machine) (p : ℕ) → living m p ≡ true → p < length (m .alive)
 living-below m p a =
     elim (cases-lt p (length (m .alive))) [ inl h ↦ h | inr past ↦ absurd (both-ways _ (getD-past (m .alive) p false past) a) ]
+
+pub there-below : {z : Sizes} {lab : ℕ → ℕ} {m : Machine} {w : World} → Sim z lab m w → (p : ℕ) → living m p ≡ true → p < z .processes
+there-below {m = m} sim p a = omega (arith, living-below m p a, sim .shape .alive)
 
 -- the same of each location that an entry names, the same seen
 pub see-same : (lab lab′ : ℕ → ℕ) (ps ps′ : List (List ℕ)) (h : Held) → ((x : ℕ) → h ≡ at x → (lab′ x ≡ lab x) × (row ps′ x ≡ row ps x)) → see lab ps h ≡ see lab′ ps′ h
@@ -69,7 +72,7 @@ see-same lab lab′ ps ps′ (at x) k = let e = k x refl in let l = e .0 in let 
 module _ {z : Sizes} {lab lab′ : ℕ → ℕ} {m m′ : Machine} {w w′ : World} {p v : ℕ} {c : Cell} {shown : Page} (sim : Sim z lab m w)
     (e : Entry-changed z lab lab′ m m′ w w′ p v c shown) where
   below : p < z .processes
-  below = omega (arith, living-below m p (e .there), sim .shape .alive)
+  below = there-below sim p (e .there)
 
   row-there : p < length (state m .rows)
   row-there = omega (arith, below, sim .shape .rows)

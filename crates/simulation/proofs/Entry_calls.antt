@@ -1,13 +1,12 @@
 -- map, drop and look: both machines make the same tests, and then one page changes.
-use mathlib.Core.Bool.{Bool, true, false, cond, _&&_, not}
-use mathlib.Core.List.{List}
+use mathlib.Core.Bool.{true, false, _&&_, not}
 use mathlib.Core.Path.{_≡_, refl, sym, ap, subst, _∙_}
 use Prim.Native.Nat.{ℕ, _<_}
 use native.Mathlib.Omega.{arith}
 use lib.Dec.{ltb}
 use lib.ListN.{replicate}
 use Rattle.std.proofs.shelf.Tests.{and-parts, ltb-true, not-true, true≢false}
-use Rattle.fold.specs.Fold.{Page, Sizes, World, Answer, absent, own, seen, process, page, inside, there, with-page, looked, call, map, drop, look, done, fault}
+use Rattle.fold.specs.Fold.{Sizes, World, own, seen, page, inside, there, with-page, looked, call, map, drop, look, done, fault}
 use Rattle.tables.specs.Cells.{Held, nothing, zeros, at, segment}
 use Rattle.segments.specs.Release.{dropped}
 use Rattle.disk.specs.Whole.{Choice}
@@ -18,7 +17,6 @@ use Rattle.calls.specs.Calls as calls
 use Rattle.calls.specs.Pages.{mapped}
 use Rattle.simulation.proofs.Sim.{Sim, Slots-true, state, see}
 use Rattle.simulation.proofs.Step.{Step, step-by, refused, by-test, changed-true}
-use Rattle.simulation.proofs.Users.{nothing≢at, nothing≢segment}
 use Rattle.simulation.proofs.Naming.{Known, held-known, changed-sim, attached, released}
 
 not-there : (h : Held) → is-there h ≡ false → h ≡ nothing

@@ -3,8 +3,11 @@ pub mod Begin
 pub mod Bytes
 pub mod Entries
 pub mod Entry_calls
+pub mod Fork
 pub mod Hits
+pub mod Leave
 pub mod Load
+pub mod Make
 pub mod Marks
 pub mod Moves
 pub mod Naming

@@ -1,34 +1,34 @@
 -- An absent page comes to name what another page names, or zeros, and a page is dropped: counts and lookers go with it.
-use mathlib.Core.Bool.{Bool, true, false, cond}
-use mathlib.Core.List.{List, []}
-use mathlib.Core.Logic.{_≢_, _⊎_, inl, inr}
+use mathlib.Core.Bool.{Bool, true, cond}
+use mathlib.Core.List.{List}
+use mathlib.Core.Logic.{_≢_, inl, inr}
 use mathlib.Core.Path.{_≡_, refl, sym, ap, subst, _∙_}
-use Prim.Native.Nat.{ℕ, _+_, _≤_, _<_}
+use Prim.Native.Nat.{ℕ, _+_, _<_}
 use native.Mathlib.Omega.{arith}
 use lib.Dec.{eqb}
 use lib.ListN.{length, getD, set}
 use Rattle.std.proofs.shelf.Lists.{length-set, getD-set-same, getD-set-other}
 use Rattle.std.proofs.shelf.Sums.{sumBy-set}
-use Rattle.std.proofs.shelf.Tests.{cases-lt, cases-eq, cases-bool, cond-true, cond-false, cond-both, eq-eqb, ne-eqb, eqb-true, eqb-false}
-use Rattle.fold.specs.Fold.{Page, Sizes, World, absent, page, with-page}
+use Rattle.std.proofs.shelf.Tests.{cases-lt, cases-eq, cond-true, cond-false, cond-both, eq-eqb, ne-eqb, eqb-true, eqb-false}
+use Rattle.fold.specs.Fold.{Sizes, World, absent, page, with-page}
 use Rattle.fold.proofs.Pages.{page-with-page}
 use Rattle.frames.specs.Counts.{counted-up, counted-down}
 use Rattle.frames.proofs.Lowest.{counts-one}
 use Rattle.tables.specs.Cells.{Held, Cell, none, nothing, zeros, at, segment}
-use Rattle.tables.specs.Rows.{entry-of, with-entry}
+use Rattle.tables.specs.Rows.{with-entry}
 use Rattle.tables.specs.State.{State, with-rows}
-use Rattle.disk.specs.Follows.{names, namers}
+use Rattle.disk.specs.Follows.{names}
 use Rattle.copies.specs.Own.{with-state}
 use Rattle.segments.specs.Release.{dropped, unnamed, given-back, lowered, with-lookers, with-segments}
 use Rattle.calls.specs.Machine.{Machine, living, with-whole}
 use Rattle.calls.specs.Calls.{holds, changed}
 use Rattle.calls.specs.Pages.{raised}
-use Rattle.simulation.proofs.Sums.{over, over-below}
-use Rattle.simulation.proofs.Sim.{Lying, Sim, state, see, looks-at}
-use Rattle.simulation.proofs.Users.{names-some, names-one, entry-names, no-segment-there, segment-names, lies-alone, count-small, lookers-small, nothing≢at, nothing≢segment}
+use Rattle.simulation.proofs.Sums.{over-below}
+use Rattle.simulation.proofs.Sim.{Sim, state, see, looks-at}
+use Rattle.simulation.proofs.Users.{names-some, entry-names, no-segment-there, segment-names, lies-alone, count-small, lookers-small, nothing≢at, nothing≢segment}
 use Rattle.simulation.proofs.Room.{segments-apart}
-use Rattle.simulation.proofs.Entries.{Entry-changed, entry-sim}
-use Rattle.simulation.proofs.Step.{Alike, alike-sim}
+use Rattle.simulation.proofs.Entries.{entry-sim}
+use Rattle.simulation.proofs.Step.{alike-sim}
 
 -- m with other tables, and all else as it is
 abbrev pub at-state : Machine → State → Machine
@@ -167,13 +167,17 @@ module _ {z : Sizes} {lab : ℕ → ℕ} {m : Machine} {w : World} (sim : Sim z 
       gone s h none = elim (cases-lt 0 (getD (state m .lookers) s 0)) [ inl some ↦ absurd (omega (arith, stay s h some)) | inr zero ↦ omega arith ]
 
   module _ (p v : ℕ) (a : living m p ≡ true) (range : v < z .pages) where
+    -- an entry that names as little as before: only it changes
+    as-little : (c : Cell) → Known m (c .holds) → ((x : ℕ) → names x (holds m p v) ≡ names x (c .holds)) → ((s : ℕ) → looks-at s (holds m p v) ≡ looks-at s (c .holds)) →
+        Sim z lab (at-state m (with-rows (state m) (with-entry (state m .rows) p v c))) (with-page w p v (see lab (state m .pages) (c .holds)))
+    as-little c known named looked =
+        plain p v c (state m .lookers) (state m .counts) a range known refl refl (λ x _. omega (arith, named x)) (λ s _. omega (arith, looked s)) (λ s _ some. some)
+
     -- an absent page comes to name what is known
     pub attached : (h : Held) (b : Bool) → holds m p v ≡ nothing → Known m h →
         Sim z lab (at-state m (with-rows (raised (state m) h) (with-entry (state m .rows) p v (record { holds = h; copy = b })))) (with-page w p v (see lab (state m .pages) h))
-    attached nothing b old known =
-        plain p v _ (state m .lookers) (state m .counts) a range known refl refl (λ x _. omega (arith, ap (names x) old)) (λ s _. omega (arith, ap (looks-at s) old)) (λ s _ some. some)
-    attached zeros b old known =
-        plain p v _ (state m .lookers) (state m .counts) a range known refl refl (λ x _. omega (arith, ap (names x) old)) (λ s _. omega (arith, ap (looks-at s) old)) (λ s _ some. some)
+    attached nothing b old known = as-little _ known (λ x. ap (names x) old) (λ s. ap (looks-at s) old)
+    attached zeros b old known = as-little _ known (λ x. ap (names x) old) (λ s. ap (looks-at s) old)
     attached (at y) b old known =
         let k = known .located y refl in
         let below = sim .labels (k .0) (k .1) y (k .2) .0 in
@@ -190,7 +194,7 @@ module _ {z : Sizes} {lab : ℕ → ℕ} {m : Machine} {w : World} (sim : Sim z 
     pub remarked : (b : Bool) → Sim z lab (at-state m (with-rows (state m) (with-entry (state m .rows) p v (record { holds = holds m p v; copy = b })))) w
     unfolding with-page
     remarked b =
-        let now = plain p v (record { holds = holds m p v; copy = b }) (state m .lookers) (state m .counts) a range (held-known m p v _ refl) refl refl (λ x _. refl) (λ s _. refl) (λ s _ some. some) in
+        let now = as-little (record { holds = holds m p v; copy = b }) (held-known m p v _ refl) (λ x. refl) (λ s. refl) in
         alike-sim z lab _ _ _ w
         (record {
           frames = refl;
@@ -281,10 +285,8 @@ module _ {z : Sizes} {lab : ℕ → ℕ} {m : Machine} {w : World} (sim : Sim z 
         ])
 
     released-by : (h : Held) → holds m p v ≡ h → Sim z lab (at-state m (unnamed (with-rows (state m) (with-entry (state m .rows) p v none)) h)) (with-page w p v absent)
-    released-by nothing old =
-        plain p v none (state m .lookers) (state m .counts) a range nothing-known refl refl (λ x _. omega (arith, ap (names x) old)) (λ s _. omega (arith, ap (looks-at s) old)) (λ s _ some. some)
-    released-by zeros old =
-        plain p v none (state m .lookers) (state m .counts) a range nothing-known refl refl (λ x _. omega (arith, ap (names x) old)) (λ s _. omega (arith, ap (looks-at s) old)) (λ s _ some. some)
+    released-by nothing old = as-little none nothing-known (λ x. ap (names x) old) (λ s. ap (looks-at s) old)
+    released-by zeros old = as-little none nothing-known (λ x. ap (names x) old) (λ s. ap (looks-at s) old)
     released-by (at y) old =
         let below = sim .labels p v y old .0 in
         plain p v none (state m .lookers) (counted-down (state m .counts) y) a range nothing-known refl (length-set (state m .counts) y _)

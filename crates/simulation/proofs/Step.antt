@@ -1,8 +1,8 @@
 -- What one call has to keep: the relation and the true slots, with the same answer. And what Sim does not look at.
-use mathlib.Core.Bool.{Bool, true, false, cond}
+use mathlib.Core.Bool.{Bool, true, cond}
 use mathlib.Core.List.{List, []}
 use mathlib.Core.Logic.{inl, inr}
-use mathlib.Core.Path.{_≡_, refl, sym, ap, subst, _∙_}
+use mathlib.Core.Path.{_≡_, sym, ap, subst, _∙_}
 use Prim.Native.Nat.{ℕ, _<_}
 use native.Mathlib.Omega.{arith}
 use lib.ListN.{length, getD}
@@ -13,7 +13,7 @@ use Rattle.lookaside.proofs.Laws.{purged-is-true}
 use Rattle.disk.specs.Whole.{Choice}
 use Rattle.calls.specs.Machine.{Machine, living}
 use Rattle.calls.specs.Calls.{calls-by, changed}
-use Rattle.simulation.proofs.Sim.{Shape, Sim, Slots-true, state}
+use Rattle.simulation.proofs.Sim.{Sim, Slots-true, state}
 
 pub record Step (choose : Choice) (z : Sizes) (m : Machine) (w : World) (c : Call) : Type 0 where
   pub lab : ℕ → ℕ
