@@ -1,3 +1,4 @@
 pub mod Absent
+pub mod Entering
 pub mod Serving
 pub mod Ways

@@ -1,6 +1,8 @@
 // The memory manager: it is opened over lent memory, and answers calls.
 mod entries;
+pub mod entry;
 mod family;
+mod lent;
 mod load;
 pub mod manager;
 mod page;

@@ -9,6 +9,7 @@ use Rattle.std.specs.declared.option.Option.the-variants.{Some, None}
 use Rattle.fold.specs.Fold as fold
 use Rattle.requests.specs.Meaning.{Asked, calls, counts, asked, seen-sizes}
 use Rattle.requests.specs.Ranges.{sizes-of, sizes-refusal}
+use Rattle.requests.specs.Refusals.{either-refusal}
 use Rattle.requests.specs.Row.{call-at, row-refusal}
 use Rattle.requests.specs.Text.{refusal-text}
 use Rattle.requests.specs.declared.answer.Refusal.{Refusal}
@@ -41,11 +42,6 @@ lines-from row z w (suc n) i = told z w i (call-at row i) (λ u. lines-from row 
 
 abbrev pub row-text : Sizes → List ℕ → ℕ → List ℕ
 row-text z row n = lines-from row (seen-sizes z) (fold.begin (seen-sizes z) (z .processes - 1)) n 0
-
--- the first refusal of two
-abbrev pub either-refusal : Option Refusal → Option Refusal → Option Refusal
-either-refusal None later = later
-either-refusal (Some e) later = Some e
 
 abbrev pub unless : Option Refusal → List ℕ → List ℕ
 unless None text = text
