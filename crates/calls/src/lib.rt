@@ -5,6 +5,7 @@ mod family;
 mod lent;
 mod load;
 pub mod manager;
+pub mod open;
 mod page;
 mod segment;
 mod serve;
