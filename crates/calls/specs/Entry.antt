@@ -9,12 +9,13 @@ use Rattle.std.specs.declared.option.Option.{Option}
 use Rattle.std.specs.declared.option.Option.the-variants.{Some, None}
 use Rattle.std.specs.declared.result.Result.{Result}
 use Rattle.std.specs.declared.result.Result.the-variants.{Ok, Err}
-use Rattle.requests.specs.Meaning.{Asked, seen-sizes}
+use Rattle.requests.specs.Meaning.{Asked, asked, seen-sizes}
 use Rattle.requests.specs.Ranges.{In-range, ranged, sizes-refusal}
 use Rattle.requests.specs.Refusals.{either-refusal}
 use Rattle.requests.specs.declared.answer.Answer.{Answer}
 use Rattle.requests.specs.declared.answer.Refusal.{Refusal}
-use Rattle.requests.specs.declared.answer.Refusal.the-variants.{Lent as TooShort}
+use Rattle.requests.specs.declared.answer.Refusal.the-variants.{Kind, Lent as TooShort}
+use Rattle.requests.specs.declared.request.Call.{Call}
 use Rattle.requests.specs.declared.sizes.Sizes.{Sizes}
 use Rattle.tables.specs.State.{Lent}
 use Rattle.calls.specs.declared.manager.Manager.{Manager}
@@ -85,6 +86,11 @@ abbrev pub Called : Option Refusal → Manager → Lent → Asked → Result Ans
 Called (Some e) g m a r h after = (r ≡ Err e) × (h ≡ g) × (after ≡ m)
 Called None g m a r h after =
     (answer : Answer) × (r ≡ Ok answer) × Served g (cut-lent (g .sizes) m) a (h, answer) (cut-lent (g .sizes) after) × (rest-lent (g .sizes) after ≡ rest-lent (g .sizes) m)
+
+-- A call by numbers: a kind that is none is refused, as call 0 of a row would be.
+abbrev pub Numbered : Option Call → Manager → Lent → Result Answer Refusal → Manager → Lent → Type 0
+Numbered None g m r h after = (r ≡ Err (Kind 0)) × (h ≡ g) × (after ≡ m)
+Numbered (Some c) g m r h after = Called (entry-refusal (g .sizes) m) g m (asked c) r h after
 
 -- An opening is refused and nothing has changed, or lent memory and the record are those of a machine at its start.
 abbrev pub Opened : Option Refusal → Sizes → Lent → Result Manager Refusal → Lent → Type 0

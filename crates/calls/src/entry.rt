@@ -1,7 +1,8 @@
 // The thin entry: it is lent the record and all memory, and hands exactly the machine's part of it to the core.
 ghost use Rattle.requests.specs.Meaning.{asked};
 ghost use Rattle.disk.specs.Moves.{lent};
-ghost use Rattle.calls.specs.Entry.{Called, entry-refusal};
+ghost use Rattle.requests.specs.Row.{call-of-numbers};
+ghost use Rattle.calls.specs.Entry.{Called, entry-refusal, Numbered};
 use crate::lent::admit;
 use crate::manager::Manager;
 use crate::serve::serve;
@@ -57,4 +58,40 @@ pub fn call(
     );
     *manager = record;
     Ok(answer)
+}
+
+// Answers a call that numbers of any size say. A kind that is none is refused; whatever else is out of range is a fault.
+pub fn call_by_numbers(
+    manager: &mut Manager,
+    table: &mut [u16],
+    segments: &mut [u16],
+    lookers: &mut [u16],
+    frame_counts: &mut [u16],
+    used: &mut [u16],
+    place_counts: &mut [u16],
+    frames: &mut [u8],
+    disk: &mut [u8],
+    kind: usize,
+    process: usize,
+    page: usize,
+    third: usize,
+    fourth: usize,
+) -> Result<Answer, Refusal>
+    ensures { λ r. ⌜ Numbered (call-of-numbers kind process page third fourth) (now (manager .entry)) (lent (now (table .entry)) (now (segments .entry)) (now (lookers .entry)) (now («frame_counts» .entry)) (now (used .entry)) (now («place_counts» .entry)) (now (frames .entry)) (now (disk .entry))) r (now (manager .exit)) (lent (now (table .exit)) (now (segments .exit)) (now (lookers .exit)) (now («frame_counts» .exit)) (now (used .exit)) (now («place_counts» .exit)) (now (frames .exit)) (now (disk .exit))) ⌝ }
+{
+    match Call::from_numbers(kind, process, page, third, fourth) {
+        Some(request) => call(
+            manager,
+            table,
+            segments,
+            lookers,
+            frame_counts,
+            used,
+            place_counts,
+            frames,
+            disk,
+            request,
+        ),
+        None => Err(Refusal::Kind(0)),
+    }
 }

@@ -11,3 +11,5 @@ mod segment;
 mod serve;
 mod slot;
 mod store;
+#[cfg(test)]
+mod tests;

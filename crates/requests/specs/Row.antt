@@ -24,6 +24,10 @@ abbrev pub call-of : ℕ → ℕ → ℕ → ℕ → ℕ → Option Call
 call-of zero p v q u = None
 call-of (suc k) p v q u = nth (call-table p v q u) k
 
+-- The call that a kind and four numbers of any size say. What is stored has to be a byte: another number is a store past the end of the page, a fault.
+abbrev pub call-of-numbers : ℕ → ℕ → ℕ → ℕ → ℕ → Option Call
+call-of-numbers k p v q u = cond (eqb k 8 && leb 256 u) (Some (Store p v 256 0)) (call-of k p v q u)
+
 abbrev pub kind-at : List ℕ → ℕ → ℕ
 kind-at row i = getD row (8 * i) 0
 
