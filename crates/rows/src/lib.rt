@@ -76,12 +76,7 @@ fn lines(heap: Global, sizes: Sizes, calls: &[u8], count: usize) -> Result<Strin
 }
 
 // A line for each call, as the machine answers it.
-fn served(
-    heap: Global,
-    machine: Machine,
-    calls: &[u8],
-    count: usize,
-) -> Result<String, AllocError>
+fn served(heap: Global, machine: Machine, calls: &[u8], count: usize) -> Result<String, AllocError>
     ensures { λ r. ⌜ made r (λ s. string-bytes s ≡ lines-from (serve (seen-sizes (machine .manager .sizes))) (now (calls .entry)) (model machine) count 0) ⌝ }
 {
     let mut machine = machine;
