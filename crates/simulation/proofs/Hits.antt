@@ -19,9 +19,10 @@ use Rattle.lookaside.specs.Slots.{find-slot, hit, hits, slot-of}
 use Rattle.disk.proofs.Taking.{none≢some, some-same}
 use Rattle.calls.specs.Machine.{Machine}
 use Rattle.calls.specs.Calls.{holds}
+use Rattle.simulation.specs.Over.{looks-at, over}
 use Rattle.simulation.proofs.Moves.{named-counted}
-use Rattle.simulation.proofs.Sim.{Lying, Sim, Slots-true, looks-at, see, state}
-use Rattle.simulation.proofs.Sums.{over, over-below}
+use Rattle.simulation.proofs.Sim.{Lying, Sim, Slots-true, see, state}
+use Rattle.simulation.proofs.Sums.{over-below}
 
 pub spot : {a b : Walked} → a ≡ b → a .spot ≡ b .spot
 spot e = ap (λ (a : Walked). a .spot) e

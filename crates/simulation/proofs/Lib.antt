@@ -11,9 +11,11 @@ pub mod Make
 pub mod Marks
 pub mod Moves
 pub mod Naming
+pub mod Outcome
 pub mod Puts
 pub mod Reaching
 pub mod Room
+pub mod Run
 pub mod Sim
 pub mod Step
 pub mod Store

@@ -27,7 +27,8 @@ use Rattle.disk.specs.Follows.{names, namers}
 use Rattle.copies.specs.Laws.{Used-up}
 use Rattle.calls.specs.Machine.{Machine, living, lowest-absent}
 use Rattle.calls.specs.Calls.{holds}
-use Rattle.simulation.proofs.Sums.{over, over-member}
+use Rattle.simulation.specs.Over.{over}
+use Rattle.simulation.proofs.Sums.{over-member}
 use Rattle.simulation.proofs.Sim.{Sim, state, see}
 use Rattle.simulation.proofs.Users.{names-one, names-some, at-same, segment-there, segment-names, lies-alone, entry-names, no-segment-there, lookers-same}
 

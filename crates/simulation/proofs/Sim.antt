@@ -19,7 +19,7 @@ use Rattle.disk.specs.Follows.{named}
 use Rattle.disk.specs.Whole.{Whole}
 use Rattle.calls.specs.Machine.{Machine, living}
 use Rattle.calls.specs.Calls.{holds}
-use Rattle.simulation.proofs.Sums.{over}
+use Rattle.simulation.specs.Over.{looks-at, over}
 
 abbrev pub state : Machine → State
 state m = m .whole .state
@@ -30,13 +30,6 @@ see lab ps nothing = absent
 see lab ps zeros = own 0 (replicate 256 0)
 see lab ps (at x) = own (lab x) (row ps x)
 see lab ps (segment s) = seen s
-
--- 1 where an entry looks at segment s
-abbrev pub looks-at : ℕ → Held → ℕ
-looks-at s nothing = 0
-looks-at s zeros = 0
-looks-at s (at x) = 0
-looks-at s (segment t) = cond (eqb s t) 1 0
 
 -- all lists are as long as the sizes say
 pub record Shape (z : Sizes) (m : Machine) (w : World) : Type 0 where

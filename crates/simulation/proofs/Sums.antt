@@ -15,16 +15,10 @@ use Rattle.fold.proofs.Sums.{sumBy-cong, sumBy-member}
 use Rattle.frames.specs.Cut.{row}
 use Rattle.tables.specs.Cells.{Held, Cell, none, nothing}
 use Rattle.tables.specs.Rows.{entry-of, with-entry}
+use Rattle.simulation.specs.Over.{over, over-row}
 
 abbrev pub holds-at : List (List Cell) → ℕ → ℕ → Held
 holds-at rows p v = entry-of rows p v .holds
-
--- over a row, and over all rows
-abbrev pub over-row : (Held → ℕ) → List Cell → ℕ
-over-row f cs = sumBy (λ (c : Cell). f (c .holds)) cs
-
-abbrev pub over : (Held → ℕ) → List (List Cell) → ℕ
-over f rows = sumBy (over-row f) rows
 
 -- the entry that was written, and every other
 pub entry-put : (rows : List (List Cell)) (p v : ℕ) (c : Cell) → p < length rows → v < length (row rows p) → entry-of (with-entry rows p v c) p v ≡ c

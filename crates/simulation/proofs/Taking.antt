@@ -20,13 +20,9 @@ use Rattle.disk.specs.Whole.{Choice, Whole, free-frame, free-place, sent-out, s
 use Rattle.disk.proofs.Follows.{swapped-y}
 use Rattle.disk.proofs.Taking.{free-at, none≢some, some-same}
 use Rattle.calls.specs.Machine.{Machine, with-whole}
+use Rattle.simulation.specs.Run.{Usable}
 use Rattle.simulation.proofs.Moves.{Moved, out-moved, stayed}
 use Rattle.simulation.proofs.Sim.{Sim, Slots-true, state}
-
--- a choice comes to one of the frames and keeps a mark for each
-abbrev pub Usable : Choice → ℕ → Type 0
-Usable choose frames =
-    (hand : ℕ) (used : List ℕ) → length used ≡ frames → (choose frames hand used .frame < frames) × (length (choose frames hand used .used) ≡ frames)
 
 -- the hand only clears marks
 marks-stay : (n more f k : ℕ) (used : List ℕ) → length (turn-from n more f k used .used) ≡ length used
