@@ -4,7 +4,9 @@ pub mod Bytes
 pub mod Entries
 pub mod Entry_calls
 pub mod Fork
+pub mod Grows
 pub mod Hits
+pub mod Kept
 pub mod Leave
 pub mod Load
 pub mod Make
@@ -16,6 +18,7 @@ pub mod Puts
 pub mod Reaching
 pub mod Room
 pub mod Run
+pub mod Shown
 pub mod Sim
 pub mod Step
 pub mod Store
