@@ -140,6 +140,10 @@ module _ (w : World) (p v l : ℕ) (ws : List ℕ) (is : page w p v ≡ own l ws
       shared-must (inl e) = or-left _ _ (eq-eqb l 0 e)
       shared-must (inr h) = or-right _ _ (lt-ltb 1 _ h)
 
+-- the process of an own page has as many pages as the sizes say
+pub own-wide : {z : Sizes} {lab : ℕ → ℕ} {m : Machine} {w : World} → Sim z lab m w → (p v l : ℕ) (ws : List ℕ) → page w p v ≡ own l ws → length (process w p .pages) ≡ z .pages
+own-wide {w = w} sim p v l ws is = sim .shape .wide p (omega (arith, alive-below w p (stands-there w p v l ws is .0), sim .shape .processes))
+
 -- full exactly where all that can be held is held
 abbrev Full-exactly : Sizes → World → Answer → Type 0
 Full-exactly z w a = (a ≡ full → z .hold ≤ held w) × (z .hold ≤ held w → a ≡ full)

@@ -4,7 +4,9 @@ pub mod Bytes
 pub mod Entries
 pub mod Entry_calls
 pub mod Fork
+pub mod Forked
 pub mod Grows
+pub mod Hand
 pub mod Hits
 pub mod Kept
 pub mod Leave

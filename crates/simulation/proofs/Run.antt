@@ -44,7 +44,7 @@ pub record Reached (z : Sizes) (frames : ℕ) (m : Machine) (w : World) : Type 0
   pub frames-stay : m .frames ≡ frames
 
 module _ (choose : Choice) (z : Sizes) (frames : ℕ) (usable : Usable choose frames) where
-  next : (m : Machine) (w : World) → Reached z frames m w → (c : Call) → (Reached z frames (calls-by choose z m c .0) (call z w c .0)) × (calls-by choose z m c .1 ≡ call z w c .1)
+  pub next : (m : Machine) (w : World) → Reached z frames m w → (c : Call) → (Reached z frames (calls-by choose z m c .0) (call z w c .0)) × (calls-by choose z m c .1 ≡ call z w c .1)
   next m w r c =
       let s = step (r .sim) (r .slots) choose (subst (Usable choose) (sym (r .frames-stay)) usable) c in
       (record { lab = s .lab; sim = s .sim; slots = s .slots; frames-stay = outcome choose z m c .1 ∙ r .frames-stay }, s .same)

@@ -17,10 +17,12 @@ use Rattle.tables.specs.Cells.{Held, Cell, none, nothing, zeros, at, segment}
 use Rattle.tables.specs.State.{Spot, Walked, nowhere, blank, lies, walk, walked, walked-segment}
 use Rattle.lookaside.specs.declared.slots.Slot.{Slot}
 use Rattle.disk.specs.Follows.{Nobody-at, bytes-at, names, namers, segment-spot}
+use Rattle.copies.specs.Laws.{copies-first}
+use Rattle.copies.specs.Own.{must-copy}
 use Rattle.calls.specs.Machine.{Machine}
 use Rattle.calls.specs.Calls.{holds}
 use Rattle.simulation.specs.Over.{over}
-use Rattle.simulation.specs.Shown.{page-bytes}
+use Rattle.simulation.specs.Shown.{must, page-bytes}
 use Rattle.simulation.proofs.Fork.{see-absent}
 use Rattle.simulation.proofs.Hits.{lies-same, lies-there, looked-lies, same-right, sees, spot, walk-lies, walk-nowhere, walks-segment}
 use Rattle.simulation.proofs.Room.{own-at}
@@ -81,22 +83,27 @@ module _ {z : Sizes} {lab : ℕ → ℕ} {m : Machine} {w : World} (sim : Sim z 
   pub lies-shown : (p v x : ℕ) → walk (state m) p v .spot ≡ lies x → (x < z .hold) × (row (state m .pages) x ≡ page-bytes w (page w p v))
   lies-shown p v x e = (walk-lies z lab m w sim p v x e .0, sym (ap (bytes-at (state m)) e) ∙ shown p v)
 
-  -- whether a store needs no copy
-  pub free-own : (p v l : ℕ) (ws : List ℕ) → page w p v ≡ own l ws → walk (state m) p v .free ≡ not (eqb l 0 || more-than-one (users w l))
-  free-own p v l ws e = by-held (holds m p v) refl
+  -- a store copies where it must
+  pub copies-when : (p v l : ℕ) (ws : List ℕ) → page w p v ≡ own l ws → copies-first (m .whole) p v ≡ must w l
+  copies-when p v l ws e = by-held (holds m p v) refl
+    where
+      by-held : (h : Held) → holds m p v ≡ h → must-copy (state m .counts) h ≡ must w l
+      by-held nothing k = absurd (let f : _≡_ {A = ℕ} 0 1 = cc (page-as p v nothing k) in omega arith)
+      by-held zeros k = ap (must w) (own-same (sym (page-as p v zeros k) ∙ e) .0)
+      by-held (at x) k = sym (copy-same sim p v x k) ∙ ap (must w) (own-same (sym (page-as p v (at x) k) ∙ e) .0)
+      by-held (segment s) k = absurd (let f : _≡_ {A = ℕ} 0 1 = cc (page-as p v (segment s) k) in omega arith)
+
+  -- and a walk says so
+  pub free-own : (p v l : ℕ) (ws : List ℕ) → page w p v ≡ own l ws → walk (state m) p v .free ≡ not (must w l)
+  free-own p v l ws e = by-held (holds m p v) refl ∙ ap not (copies-when p v l ws e)
     where
       turned : (n : ℕ) → leb n 1 ≡ not (ltb 1 n)
       turned n = elim (cases-lt 1 n) [ inl h ↦ grind (arith, tells) | inr h ↦ grind (arith, tells) ]
 
-      by-held : (h : Held) → holds m p v ≡ h → walk (state m) p v .free ≡ not (eqb l 0 || more-than-one (users w l))
+      by-held : (h : Held) → holds m p v ≡ h → walked (state m .segments) (state m .counts) h .free ≡ not (must-copy (state m .counts) h)
       by-held nothing k = absurd (let f : _≡_ {A = ℕ} 0 1 = cc (page-as p v nothing k) in omega arith)
-      by-held zeros k =
-          let same = own-same (sym (page-as p v zeros k) ∙ e) .0 in
-          ap (λ (a : Walked). a .free) (walks p v zeros k) ∙ ap (λ n. not (eqb n 0 || more-than-one (users w n))) same
-      by-held (at x) k =
-          let same = own-same (sym (page-as p v (at x) k) ∙ e) .0 in
-          ap (λ (a : Walked). a .free) (walks p v (at x) k) ∙ turned (getD (state m .counts) x 0) ∙ sym (ap not (copy-same sim p v x k))
-          ∙ ap (λ n. not (eqb n 0 || more-than-one (users w n))) same
+      by-held zeros k = refl
+      by-held (at x) k = turned (getD (state m .counts) x 0)
       by-held (segment s) k = absurd (let f : _≡_ {A = ℕ} 0 1 = cc (page-as p v (segment s) k) in omega arith)
 
   pub free-seen : (p v s : ℕ) → page w p v ≡ seen s → walk (state m) p v .free ≡ true
