@@ -6,12 +6,11 @@ use mathlib.Core.Logic.{_≢_, _⊎_, inl, inr}
 use mathlib.Core.Path.{_≡_, refl, sym, ap, subst, _∙_}
 use Prim.Native.Nat.{ℕ, zero, suc, _+_, _≤_, _<_}
 use native.Mathlib.Omega.{arith}
-use lib.Dec.{eqb, leb, ltb}
+use lib.Dec.{eqb, leb}
 use lib.ListN.{length, getD, set}
-use Rattle.std.specs.shelf.Lists.{countBy}
 use Rattle.std.proofs.shelf.Sums.{sumBy-cons}
-use Rattle.std.proofs.shelf.Tests.{and-from, cases-bool, cases-eq, cond-true, cond-false, eq-eqb, le-leb, le-ltb, leb-false, leb-true, lt-leb, lt-ltb, ne-eqb, not-from-false, or-from, or-left, or-right}
-use Rattle.fold.specs.Fold.{Page, Process, Sizes, World, Answer, absent, own, seen, process, page, is-own, is-seen, over-all, users, lookers, held, with-page, inside, there, stored, call, store, make, first-segment, more-than-one, done, fault, full}
+use Rattle.std.proofs.shelf.Tests.{and-from, cases-eq, cond-true, cond-false, eq-eqb, le-ltb, leb-false, leb-true, lt-leb, lt-ltb, ne-eqb, not-from-false, or-from, or-left, or-right}
+use Rattle.fold.specs.Fold.{Page, Process, Sizes, World, Answer, absent, own, process, page, is-own, is-seen, over-all, users, lookers, held, with-page, inside, there, stored, call, store, make, first-segment, done, full}
 use Rattle.fold.proofs.Count.{one, count, count-cong}
 use Rattle.fold.proofs.Held.{held-is, label-held, segment-held}
 use Rattle.fold.proofs.Pages.{alive-below}

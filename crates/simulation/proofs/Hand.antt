@@ -1,11 +1,10 @@
 -- Which frame is given: a free one, else the chosen one, and one is given where not all that can be held is held.
-use mathlib.Core.Path.{_≡_, refl, sym, ap, _∙_}
-use Prim.Native.Nat.{ℕ, _≤_, _<_}
+use mathlib.Core.Path.{_≡_, refl, ap, _∙_}
+use Prim.Native.Nat.{ℕ, _<_}
 use native.Mathlib.Omega.{arith}
 use Rattle.std.specs.declared.option.Option.{Option}
 use Rattle.std.specs.declared.option.Option.the-variants.{Some, None}
 use Rattle.fold.specs.Fold.{Sizes, World, held}
-use Rattle.frames.specs.Turn.{Turned}
 use Rattle.disk.specs.declared.registers.Taken.{Taken}
 use Rattle.disk.specs.Whole.{Choice, Whole, bring-in, brought-by, free-frame, free-place, take-frame, taken-by}
 use Rattle.disk.proofs.Taking.{none-only-if-full}

@@ -1,32 +1,31 @@
 -- Nothing is lost and nothing is left over: who lies at one location, which locations are in use, and that moving pages changes no byte.
-use mathlib.Core.Bool.{false, true}
-use mathlib.Core.List.{List, []}
+use mathlib.Core.Bool.{false}
 use mathlib.Core.Logic.{_≢_, _⊎_, inl, inr}
-use mathlib.Core.Path.{_≡_, refl, sym, ap, subst, _∙_}
-use Prim.Native.Nat.{ℕ, _+_, _≤_, _<_}
+use mathlib.Core.Path.{_≡_, refl, sym, ap, _∙_}
+use Prim.Native.Nat.{ℕ, _+_, _<_}
 use native.Mathlib.Omega.{arith}
-use lib.ListN.{length, getD}
+use lib.ListN.{getD}
 use Rattle.std.proofs.shelf.Lists.{getD-past}
 use Rattle.std.proofs.shelf.Tests.{and-parts, cases-eq, cases-lt, cond-false, ltb-true}
 use Rattle.std.specs.declared.option.Option.the-variants.{Some, None}
-use Rattle.fold.specs.Fold.{Page, Sizes, World, absent, page}
+use Rattle.fold.specs.Fold.{Sizes, World, absent, page}
 use Rattle.fold.proofs.Held.{Looks, looks-of}
 use Rattle.fold.proofs.Pages.{page-is}
 use Rattle.tables.specs.Cells.{Held, Cell, none, nothing, zeros, at, segment}
-use Rattle.tables.specs.State.{Spot, Walked, nowhere, blank, lies, walk, walked-segment}
+use Rattle.tables.specs.State.{Spot, nowhere, blank, lies, walk, walked-segment}
 use Rattle.lookaside.specs.declared.slots.Slot.{Slot}
-use Rattle.disk.specs.Follows.{Nobody-at, Same-bytes, bytes-at, names, namers, segment-spot}
+use Rattle.disk.specs.Follows.{Nobody-at, Same-bytes, bytes-at, names, segment-spot}
 use Rattle.disk.specs.Whole.{Choice, Whole, bring-in, free-frame, free-place, take-frame}
 use Rattle.calls.specs.Machine.{Machine, living}
 use Rattle.calls.specs.Calls.{holds}
 use Rattle.simulation.specs.Over.{over}
 use Rattle.simulation.specs.Run.{Usable}
-use Rattle.simulation.proofs.Hits.{lies-same, lies-there, looked-lies, same-right, spot, walk-lies, walks-segment}
+use Rattle.simulation.proofs.Hits.{lies-same, lies-there, same-right, spot, walk-lies}
 use Rattle.simulation.proofs.Moves.{Moved, held-to, spot-to, walk-moved}
 use Rattle.simulation.proofs.Reaching.{brought}
 use Rattle.simulation.proofs.Room.{segments-apart}
 use Rattle.simulation.proofs.Shown.{absent-nowhere, page-as, seen-holds, walks}
-use Rattle.simulation.proofs.Sim.{Sim, Slots-true, see, state}
+use Rattle.simulation.proofs.Sim.{Sim, Slots-true, state}
 use Rattle.simulation.proofs.Sums.{over-member}
 use Rattle.simulation.proofs.Taking.{taken}
 use Rattle.simulation.proofs.Users.{lies-alone, lookers-same, names-some, no-segment-there, segment-names, segment-there}

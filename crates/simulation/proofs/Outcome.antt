@@ -18,7 +18,6 @@ use Rattle.copies.specs.Laws.{copies-first}
 use Rattle.copies.specs.Own.{alone-by, own-holds, stored-own}
 use Rattle.copies.proofs.Laws.{full-when-used-up}
 use Rattle.segments.specs.declared.make.Made.{Made}
-use Rattle.segments.specs.Make.{make-segment}
 use Rattle.segments.specs.Reach.{put-by, reach-page, reached-by, stored-to-segment}
 use Rattle.segments.proofs.Full.{make-full-exactly}
 use Rattle.calls.specs.Machine.{Machine, lowest-absent, with-whole}

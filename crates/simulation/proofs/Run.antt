@@ -1,8 +1,8 @@
 -- Every call keeps manager and private machine together, and so every row of calls does.
 use mathlib.Core.List.{List, [], _∷_}
-use mathlib.Core.Path.{_≡_, refl, sym, ap, subst, _∙_}
+use mathlib.Core.Path.{_≡_, refl, sym, subst, _∙_}
 use Prim.Native.Nat.{ℕ, suc, _+_, _≤_, _<_}
-use Rattle.fold.specs.Fold.{Sizes, World, Call, Answer, fork, leave, map, drop, make, look, load, store, call, answers, after, begin}
+use Rattle.fold.specs.Fold.{Sizes, World, Call, fork, leave, map, drop, make, look, load, store, call, answers, after, begin}
 use Rattle.fold.specs.Promise.{manager-answers}
 use Rattle.disk.specs.Whole.{Choice}
 use Rattle.calls.specs.Machine.{Machine, first}

@@ -1,35 +1,30 @@
 -- What a walk answers, page by page of the private machine: where each page lies, with which bytes, and who else lies there.
-use mathlib.Core.Bool.{Bool, true, false, cond, _||_, not}
-use mathlib.Core.List.{List, []}
-use mathlib.Core.Logic.{_≢_, _⊎_, inl, inr}
-use mathlib.Core.Path.{_≡_, refl, sym, ap, subst, _∙_}
-use Prim.Native.Nat.{ℕ, _+_, _≤_, _<_}
+use mathlib.Core.Bool.{true, not}
+use mathlib.Core.List.{List}
+use mathlib.Core.Logic.{_≢_, inl, inr}
+use mathlib.Core.Path.{_≡_, refl, sym, ap, _∙_}
+use Prim.Native.Nat.{ℕ, _<_}
 use native.Mathlib.Omega.{arith}
-use lib.Dec.{eqb, leb, ltb}
-use lib.ListN.{length, getD, replicate}
-use Rattle.std.proofs.shelf.Lists.{getD-past}
-use Rattle.std.proofs.shelf.Tests.{and-parts, cases-lt, ltb-true}
+use lib.Dec.{leb, ltb}
+use lib.ListN.{getD, replicate}
+use Rattle.std.proofs.shelf.Tests.{cases-lt}
 use Rattle.std.proofs.shelf.Ways.{tells}
-use Rattle.std.specs.declared.option.Option.the-variants.{Some, None}
-use Rattle.fold.specs.Fold.{Page, Sizes, World, absent, own, seen, page, users, more-than-one}
+use Rattle.fold.specs.Fold.{Sizes, World, absent, own, seen, page}
 use Rattle.frames.specs.Cut.{row}
-use Rattle.tables.specs.Cells.{Held, Cell, none, nothing, zeros, at, segment}
-use Rattle.tables.specs.State.{Spot, Walked, nowhere, blank, lies, walk, walked, walked-segment}
-use Rattle.lookaside.specs.declared.slots.Slot.{Slot}
-use Rattle.disk.specs.Follows.{Nobody-at, bytes-at, names, namers, segment-spot}
+use Rattle.tables.specs.Cells.{Held, nothing, zeros, at, segment}
+use Rattle.tables.specs.State.{Walked, nowhere, blank, lies, walk, walked, walked-segment}
+use Rattle.disk.specs.Follows.{bytes-at}
 use Rattle.copies.specs.Laws.{copies-first}
 use Rattle.copies.specs.Own.{must-copy}
 use Rattle.calls.specs.Machine.{Machine}
 use Rattle.calls.specs.Calls.{holds}
-use Rattle.simulation.specs.Over.{over}
 use Rattle.simulation.specs.Shown.{must, page-bytes}
 use Rattle.simulation.proofs.Fork.{see-absent}
-use Rattle.simulation.proofs.Hits.{lies-same, lies-there, looked-lies, same-right, sees, spot, walk-lies, walk-nowhere, walks-segment}
+use Rattle.simulation.proofs.Hits.{looked-lies, sees, spot, walk-lies, walks-segment}
 use Rattle.simulation.proofs.Room.{own-at}
-use Rattle.simulation.proofs.Sim.{Sim, Slots-true, see, state}
+use Rattle.simulation.proofs.Sim.{Sim, see, state}
 use Rattle.simulation.proofs.Storing.{own-same}
-use Rattle.simulation.proofs.Sums.{over-member}
-use Rattle.simulation.proofs.Users.{at-same, copy-same, lies-alone, names-some, segment-there}
+use Rattle.simulation.proofs.Users.{copy-same}
 
 module _ {z : Sizes} {lab : ℕ → ℕ} {m : Machine} {w : World} (sim : Sim z lab m w) where
   -- a walk of a page, by what its entry holds

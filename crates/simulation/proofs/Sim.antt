@@ -1,22 +1,19 @@
 -- The relation between the manager and the machine of private memories. `lab` says which label the page at each location has; it is a parameter and not kept
 -- anywhere, since pages that change places take their labels with them.
-use mathlib.Core.Bool.{Bool, true, false, cond}
+use mathlib.Core.Bool.{true}
 use mathlib.Core.List.{List, []}
 use mathlib.Core.Logic.{_≢_}
 use mathlib.Core.Path.{_≡_}
-use Prim.Native.Nat.{ℕ, _+_, _≤_, _<_}
-use lib.Dec.{eqb}
+use Prim.Native.Nat.{ℕ, _≤_, _<_}
 use lib.ListN.{length, getD, replicate}
-use Rattle.std.specs.declared.option.Option.{Option}
 use Rattle.std.specs.declared.option.Option.the-variants.{Some, None}
-use Rattle.fold.specs.Fold.{Page, Process, Sizes, World, absent, own, seen, process, page}
+use Rattle.fold.specs.Fold.{Page, Sizes, World, absent, own, seen, process, page}
 use Rattle.frames.specs.Cut.{row}
-use Rattle.tables.specs.Cells.{Held, Cell, none, nothing, zeros, at, segment}
+use Rattle.tables.specs.Cells.{Held, none, nothing, zeros, at, segment}
 use Rattle.tables.specs.State.{State}
 use Rattle.lookaside.specs.declared.slots.Slot.{Slot}
 use Rattle.lookaside.specs.Purge.{true-slot}
 use Rattle.disk.specs.Follows.{named}
-use Rattle.disk.specs.Whole.{Whole}
 use Rattle.calls.specs.Machine.{Machine, living}
 use Rattle.calls.specs.Calls.{holds}
 use Rattle.simulation.specs.Over.{looks-at, over}

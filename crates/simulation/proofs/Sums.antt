@@ -1,15 +1,13 @@
 -- Sums of a number over all entries of the page tables: one entry changed, another number, a member, two members, a bound.
 use mathlib.Core.List.{List, [], _∷_}
-use mathlib.Core.Logic.{_≢_, _⊎_, inl, inr}
-use mathlib.Core.Path.{_≡_, refl, sym, ap, subst, _∙_}
+use mathlib.Core.Logic.{_⊎_, inl, inr}
+use mathlib.Core.Path.{_≡_, sym, ap, _∙_}
 use Prim.Native.Nat.{ℕ, suc, _+_, _*_, _≤_, _<_}
 use native.Mathlib.Omega.{arith}
-use native.Mathlib.Nat.{mul-le-mul-left}
 use lib.ListN.{length, getD, set}
-use Rattle.std.specs.shelf.Lists.{sumBy, All}
 use Rattle.std.proofs.shelf.Elements.{all-from-getD}
 use Rattle.std.proofs.shelf.Sums.{sumBy-cons, sumBy-set, getD-le-sumBy, sumBy-le}
-use Rattle.std.proofs.shelf.Lists.{getD-past, getD-default, getD-set-same, getD-set-other, length-set, set-past}
+use Rattle.std.proofs.shelf.Lists.{getD-past, getD-default, getD-set-same, getD-set-other, set-past}
 use Rattle.std.proofs.shelf.Tests.{cases-lt, cases-eq}
 use Rattle.fold.proofs.Sums.{sumBy-cong, sumBy-member}
 use Rattle.frames.specs.Cut.{row}
