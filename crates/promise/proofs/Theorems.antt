@@ -16,7 +16,7 @@ use Rattle.simulation.specs.Run.{Usable}
 use Rattle.simulation.specs.Shown.{must, page-bytes}
 use Rattle.simulation.proofs.Forked.{fork-memory}
 use Rattle.simulation.proofs.Grows.{held-in-use, held-stored, make-full, own-wide, store-full}
-use Rattle.simulation.proofs.Hand.{chosen-brought, chosen-taken, frame-given, free-taken}
+use Rattle.simulation.proofs.Hand.{chosen-brought, chosen-taken, frame-given, free-brought, free-taken}
 use Rattle.simulation.proofs.Kept.{bring-keeps, nobody-at, nothing-used, one-page, slot-walk, somebody-at, take-keeps}
 use Rattle.simulation.proofs.Outcome.{refused-same}
 use Rattle.simulation.proofs.Run.{Reached, next, opening, reaches, same-answers-from}
@@ -147,6 +147,7 @@ hand-goes =
     (hand-goes-round (m .whole .hand) (state m .used) (omega (arith, r .sim .shape .some, r .sim .shape .used))) in
     record {
       spares = λ f. free-taken turn (m .frames) f (m .whole);
+      fetches = λ f d. free-brought turn (m .frames) f d (m .whole);
       round = goes;
       few = omega (arith, goes .few, r .sim .shape .some);
       takes = chosen-taken (r .sim) turn;

@@ -26,11 +26,12 @@ abbrev pub turn-now : ℕ → Machine → Turned
 turn-now frames m = turn frames (m .whole .hand) (state m .used)
 
 pub record Hand-turns (z : Sizes) (frames : ℕ) (m : Machine) (w : World) : Type 0 where
-  -- a frame that is free is taken as it is: nothing moves
+  -- A frame that is free is taken as it is, the lowest one: nothing moves, and the hand does not look. A page from the disk comes to it too.
   pub spares : (f : ℕ) → free-frame frames (m .whole) ≡ Some f → take-frame turn frames (m .whole) ≡ (m .whole, Some (record { frame = f; looks = 0 }))
+  pub fetches : (f d : ℕ) → free-frame frames (m .whole) ≡ Some f → bring-in turn frames d (m .whole) .1 ≡ record { frame = f; looks = 0 }
   -- else the hand goes round from where it rests and takes the first frame that has no used mark, clearing the marks that it passes
   pub round : Goes-round frames (start frames (m .whole .hand)) (state m .used) (turn-now frames m)
-  -- it looks at each frame twice at most
+  -- so it never looks at more than twice as many frames as there are
   pub few : turn-now frames m .looks ≤ 2 * frames
   -- and that frame is the one that is taken, if not all that can be held is held, or that a page from the disk comes to
   pub takes : free-frame frames (m .whole) ≡ None → held w < z .hold → take-frame turn frames (m .whole) .1 ≡ Some (as-taken (turn-now frames m))

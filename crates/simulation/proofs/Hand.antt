@@ -47,3 +47,8 @@ chosen-brought choose frames d w e = ap (λ a. brought-by choose frames d w a (f
 pub free-taken : (choose : Choice) (frames f : ℕ) (w : Whole) → free-frame frames w ≡ Some f → take-frame choose frames w ≡ (w, Some (record { frame = f; looks = 0 }))
 unfolding take-frame
 free-taken choose frames f w e = ap (λ a. taken-by choose frames w a (free-place frames w)) e
+
+-- and a page that comes in comes there
+pub free-brought : (choose : Choice) (frames f d : ℕ) (w : Whole) → free-frame frames w ≡ Some f → bring-in choose frames d w .1 ≡ record { frame = f; looks = 0 }
+unfolding bring-in
+free-brought choose frames f d w e = ap (λ a. brought-by choose frames d w a (free-place frames w) .1) e
