@@ -3,11 +3,11 @@ use mathlib.Core.Bool.{Bool, true, false, cond}
 use mathlib.Core.Logic.{_⊎_, inl, inr}
 use mathlib.Core.Path.{_≡_, refl, sym, ap, _∙_}
 use Prim.Native.Nat.{ℕ}
-use native.Mathlib.Omega.{arith}
 use Rattle.std.proofs.shelf.Tests.{cases-bool, cond-true, cond-false}
 use Rattle.std.specs.declared.option.Option.{Option}
 use Rattle.std.specs.declared.option.Option.the-variants.{Some, None}
 use Rattle.tables.specs.Cells.{Held, nothing, zeros, at, segment}
+use Rattle.lookaside.proofs.Options.{none≢some, some-same}
 use Rattle.disk.specs.declared.registers.Taken.{Taken}
 use Rattle.disk.specs.Whole.{Choice, Whole, free-frame, free-place, take-frame, taken-by}
 use Rattle.disk.proofs.Taking.{none-only-if-full}
@@ -15,12 +15,6 @@ use Rattle.copies.specs.declared.anew.Written.{Written}
 use Rattle.copies.specs.Anew.{written-by, stored-anew}
 use Rattle.copies.specs.Own.{alone-by, own-holds, stored-own}
 use Rattle.copies.specs.Laws.{copies-first, Used-up, Full-exactly, Full-when-used-up, Says-copied}
-
-none≢some : (t : Written) → None ≡ Some t → ⊥
-none≢some t e = let z : _≡_ {A = ℕ} 0 1 = cc in omega arith
-
-some-same : {X : Type 0} {x y : X} → Some x ≡ Some y → x ≡ y
-some-same q = cc
 
 module _ (choose : Choice) (frames : ℕ) (w : Whole) (p v o b : ℕ) where
   copying : copies-first w p v ≡ true → stored-own choose frames w p v o b ≡ stored-anew choose frames w p v o b

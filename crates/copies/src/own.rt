@@ -17,6 +17,7 @@ use crate::anew::Written;
 use crate::anew::store_anew;
 use crate::stores::store_in_place;
 use disk::find::bring_in;
+use disk::find::take_frame;
 use disk::registers::Registers;
 use tables::entry::Limits;
 use tables::entry::Target;
@@ -153,9 +154,9 @@ pub fn store(
     ensures value { λ r. ⌜ ((lookers : List ℕ) → _≡_ {A = Whole × Option Written} ((whole limits pages processes (r .0) (lent (now (table .exit)) (now (segments .exit)) lookers (now («frame_counts» .exit)) (now (used .exit)) (now («place_counts» .exit)) (now (frames .exit)) (now (disk .exit)))), r .1) (stored-own turn (limits .frames) (whole limits pages processes registers (lent (now (table .entry)) (now (segments .entry)) lookers (now («frame_counts» .entry)) (now (used .entry)) (now («place_counts» .entry)) (now (frames .entry)) (now (disk .entry)))) process page offset byte)) ⌝ }
     ensures within { λ r. ⌜ Cases (r .1) (Unit {0}) (λ t. t .frame < limits .frames) ⌝ }
 {
-    let target = table::read(table, limits, pages, process, page).target;
-    if must_copy(frame_counts, place_counts, limits, target) {
-        store_anew(
+    let seen = table::read(table, limits, pages, process, page).target;
+    if !must_copy(frame_counts, place_counts, limits, seen) {
+        return store_alone(
             table,
             segments,
             frame_counts,
@@ -171,25 +172,51 @@ pub fn store(
             page,
             offset,
             byte,
-        )
-    } else {
-        store_alone(
-            table,
-            segments,
-            frame_counts,
-            used,
-            place_counts,
-            frames,
-            disk,
-            limits,
-            processes,
-            pages,
-            registers,
-            process,
-            page,
-            offset,
-            byte,
-        )
+        );
+    }
+    let (registers, taken) = take_frame(
+        table,
+        segments,
+        frame_counts,
+        used,
+        place_counts,
+        frames,
+        disk,
+        limits,
+        processes,
+        pages,
+        registers,
+    );
+    match taken {
+        None => (registers, None),
+        Some(taken) => {
+            // The hand may have sent the very page to the disk: the entry is looked at again.
+            let target = table::read(table, limits, pages, process, page).target;
+            let registers = store_anew(
+                table,
+                segments,
+                frame_counts,
+                place_counts,
+                frames,
+                disk,
+                limits,
+                processes,
+                pages,
+                registers,
+                process,
+                page,
+                target,
+                taken.frame,
+                offset,
+                byte,
+            );
+            let written = Written {
+                frame: taken.frame,
+                copied: true,
+                looks: taken.looks,
+            };
+            (registers, Some(written))
+        }
     }
 }
 

@@ -48,6 +48,14 @@ swapped-twice x y l =
       | inr (inr n) ↦ ap (swapped x y) (swapped-other x y l (n .0) (n .1)) ∙ swapped-other x y l (n .0) (n .1)
     ]
 
+-- after an exchange, x has what y had
+pub swap-first : {X : Type 0} (x y : ℕ) (d : X) (xs : List X) → x < length xs → y < length xs → getD (swap-at x y d xs) x d ≡ getD xs y d
+swap-first x y d xs h k =
+    elim (cases-eq x y) [
+      | inl e ↦ ap (λ n. getD (swap-at x y d xs) n d) e ∙ getD-set-same (set xs x (getD xs y d)) y (getD xs x d) d (omega (arith, length-set xs x (getD xs y d))) ∙ ap (λ n. getD xs n d) e
+      | inr n ↦ getD-set-other (set xs x (getD xs y d)) y x (getD xs x d) d n ∙ getD-set-same xs x (getD xs y d) d h
+    ]
+
 -- what stood at l stands at its new location
 pub swap-follows : {X : Type 0} (x y l : ℕ) (d : X) (xs : List X) → x < length xs → y < length xs → getD (swap-at x y d xs) (swapped x y l) d ≡ getD xs l d
 swap-follows x y l d xs h k =
@@ -56,18 +64,11 @@ swap-follows x y l d xs h k =
           ap (λ n. getD (swap-at x y d xs) (swapped x y n) d) e ∙ ap (λ n. getD (swap-at x y d xs) n d) (swapped-x x y)
           ∙ getD-set-same (set xs x (getD xs y d)) y (getD xs x d) d (omega (arith, length-set xs x (getD xs y d))) ∙ ap (λ n. getD xs n d) (sym e)
       | inr (inl e) ↦
-          ap (λ n. getD (swap-at x y d xs) (swapped x y n) d) e ∙ ap (λ n. getD (swap-at x y d xs) n d) (swapped-y x y) ∙ at-x ∙ ap (λ n. getD xs n d) (sym e)
+          ap (λ n. getD (swap-at x y d xs) (swapped x y n) d) e ∙ ap (λ n. getD (swap-at x y d xs) n d) (swapped-y x y) ∙ swap-first x y d xs h k ∙ ap (λ n. getD xs n d) (sym e)
       | inr (inr n) ↦
           ap (λ m. getD (swap-at x y d xs) m d) (swapped-other x y l (n .0) (n .1)) ∙ getD-set-other (set xs x (getD xs y d)) y l (getD xs x d) d (n .1)
           ∙ getD-set-other xs x l (getD xs y d) d (n .0)
     ]
-  where
-    at-x : getD (swap-at x y d xs) x d ≡ getD xs y d
-    at-x =
-        elim (cases-eq x y) [
-          | inl e ↦ ap (λ n. getD (swap-at x y d xs) n d) e ∙ getD-set-same (set xs x (getD xs y d)) y (getD xs x d) d (omega (arith, length-set xs x (getD xs y d))) ∙ ap (λ n. getD xs n d) e
-          | inr n ↦ getD-set-other (set xs x (getD xs y d)) y x (getD xs x d) d n ∙ getD-set-same xs x (getD xs y d) d h
-        ]
 
 module _ (x y : ℕ) (ps : List (List ℕ)) (m : State) where
   -- every entry and every segment is the old one, renamed

@@ -1,4 +1,5 @@
 pub mod Follows
+pub mod Keeps
 pub mod Relocate
 pub mod Settle
 pub mod Taking

@@ -83,3 +83,7 @@ Counts-right m = (l : ℕ) → l < length (m .counts) → getD (m .counts) l 0 �
 abbrev pub Counts-follow : Type 0
 Counts-follow =
     (x y : ℕ) (ps : List (List ℕ)) (m : State) → x < length (m .counts) → y < length (m .counts) → Counts-right m → Counts-right (relocated x y ps m)
+
+-- where counts are right, nobody has what lies at a location of count 0
+abbrev pub Free-is-nobodys : Type 0
+Free-is-nobodys = (m : State) (l : ℕ) → l < length (m .counts) → Counts-right m → getD (m .counts) l 0 ≡ 0 → Nobody-at m l

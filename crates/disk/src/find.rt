@@ -8,7 +8,7 @@ ghost use Rattle.std.specs.declared.option.Option.{Option};
 ghost use Rattle.frames.specs.Turn.{turn};
 ghost use Rattle.tables.specs.Cells.{Few};
 ghost use Rattle.disk.specs.declared.registers.Taken.{Taken};
-ghost use Rattle.disk.specs.Frames.{None-only-if-full, Taken-is-free};
+ghost use Rattle.disk.specs.Frames.{Bring-keeps-bytes, Bring-keeps-counts, None-only-if-full, Take-keeps-bytes, Take-keeps-counts, Taken-is-free};
 ghost use Rattle.disk.specs.Moves.{lent};
 ghost use Rattle.disk.specs.Whole.{bring-in, Exact, fetched, sent-out, take-frame, traded, Whole, whole};
 use crate::moves::move_in;
@@ -320,8 +320,12 @@ pub fn bring_in(
 }
 
 // Of a frame that was taken, whatever the choice: nobody names it any more. None is given only where nothing is free, and then nothing has
-// changed.
+// changed. Whether a frame is taken or a page comes in, no byte changes that anybody sees, and counts stay right.
 pub fn taken_frames()
     ensures free { λ _. ⌜ Taken-is-free ⌝ }
     ensures none { λ _. ⌜ None-only-if-full ⌝ }
+    ensures take_bytes { λ _. ⌜ Take-keeps-bytes ⌝ }
+    ensures take_counts { λ _. ⌜ Take-keeps-counts ⌝ }
+    ensures bring_bytes { λ _. ⌜ Bring-keeps-bytes ⌝ }
+    ensures bring_counts { λ _. ⌜ Bring-keeps-counts ⌝ }
 {}

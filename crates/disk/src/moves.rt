@@ -6,7 +6,7 @@ ghost use lib.ListN.{length};
 ghost use Rattle.tables.specs.Cells.{Few, renamed};
 ghost use Rattle.tables.specs.Rows.{cells};
 ghost use Rattle.tables.specs.State.{view};
-ghost use Rattle.disk.specs.Follows.{Counts-follow, Exchange-keeps-bytes, In-keeps-bytes, Out-keeps-bytes, Segment-follows, Walk-follows};
+ghost use Rattle.disk.specs.Follows.{Counts-follow, Exchange-keeps-bytes, Free-is-nobodys, In-keeps-bytes, Out-keeps-bytes, Segment-follows, Walk-follows};
 ghost use Rattle.disk.specs.Moves.{come-in, exchanged, gone-out, lent, swap-at};
 use frames::memory;
 use tables::entry::Limits;
@@ -155,4 +155,5 @@ pub fn moves_keep()
     ensures inward { λ _. ⌜ In-keeps-bytes ⌝ }
     ensures exchange { λ _. ⌜ Exchange-keeps-bytes ⌝ }
     ensures counts { λ _. ⌜ Counts-follow ⌝ }
+    ensures free { λ _. ⌜ Free-is-nobodys ⌝ }
 {}

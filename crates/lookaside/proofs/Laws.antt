@@ -16,9 +16,7 @@ use Rattle.lookaside.specs.declared.slots.Slot.{Slot}
 use Rattle.lookaside.specs.Laws.{Purged-is-true, True-is-kept, Put-is-found, Others-stay}
 use Rattle.lookaside.specs.Purge.{kept-slot, purged, true-slot}
 use Rattle.lookaside.specs.Slots.{hit, hits, slot-of}
-
-none≢some : (s : Slot) → None ≡ Some s → ⊥
-none≢some s e = let z : _≡_ {A = ℕ} 0 1 = cc in omega arith
+use Rattle.lookaside.proofs.Options.{none≢some, some-same}
 
 module _ (rows : List (List Cell)) (segments : List Cell) (counts : List ℕ) (frames : ℕ) where
   -- a purge, slot by slot
@@ -34,7 +32,7 @@ module _ (rows : List (List Cell)) (segments : List Cell) (counts : List ℕ) (f
   kept-is-true None s e = absurd (none≢some s e)
   kept-is-true (Some t) s e =
       elim (cases-bool (true-slot rows segments counts frames t)) [
-        | inl y ↦ (let k : Some t ≡ Some s = sym (cond-true _ (Some t) None y) ∙ e in let same : t ≡ s = cc in ap (true-slot rows segments counts frames) (sym same) ∙ y)
+        | inl y ↦ ap (true-slot rows segments counts frames) (sym (some-same (sym (cond-true _ (Some t) None y) ∙ e))) ∙ y
         | inr n ↦ absurd (none≢some s (sym (cond-false _ (Some t) None n) ∙ e))
       ]
 

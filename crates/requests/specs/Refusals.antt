@@ -23,3 +23,8 @@ refusal-place (Kind i) = i
 abbrev pub unless-refused : {T : Type 0} → Option Refusal → T → Result T Refusal
 unless-refused None x = Ok x
 unless-refused (Some e) x = Err e
+
+-- the first refusal of two
+abbrev pub either-refusal : Option Refusal → Option Refusal → Option Refusal
+either-refusal None later = later
+either-refusal (Some e) later = Some e

@@ -7,13 +7,16 @@ use Rattle.std.specs.Written.{decimal}
 use Rattle.std.specs.declared.option.Option.{Option}
 use Rattle.std.specs.declared.option.Option.the-variants.{Some, None}
 use Rattle.fold.specs.Fold as fold
-use Rattle.requests.specs.Meaning.{Asked, calls, counts, asked, seen-sizes}
+use Rattle.requests.specs.Meaning.{Asked, asked, seen-sizes}
 use Rattle.requests.specs.Ranges.{sizes-of, sizes-refusal}
+use Rattle.requests.specs.Refusals.{either-refusal}
 use Rattle.requests.specs.Row.{call-at, row-refusal}
 use Rattle.requests.specs.Text.{refusal-text}
 use Rattle.requests.specs.declared.answer.Refusal.{Refusal}
 use Rattle.requests.specs.declared.request.Call.{Call}
 use Rattle.requests.specs.declared.sizes.Sizes.{Sizes}
+use Rattle.calls.specs.Machine.{first}
+use Rattle.calls.specs.Memory.{serve}
 
 abbrev pub fold-text : fold.Answer → List ℕ
 fold-text (fold.done n) = codes "done " ++ decimal n
@@ -24,28 +27,21 @@ fold-text fold.full = codes "full"
 abbrev pub line : ℕ → fold.Answer → List ℕ
 line i a = decimal i ++ (codes " " ++ (fold-text a ++ codes "\n"))
 
--- the machine has no disk, so its counts are 0
-abbrev pub serve : fold.Sizes → fold.World → Asked → fold.World × fold.Answer
-serve z w (calls k) = fold.call z w k
-serve z w counts = (w, fold.done 0)
+-- What a machine of any kind prints, by how it serves what is asked.
+module _ {M : Type 0} (serve : M → Asked → M × fold.Answer) where
+  -- the line of call i, if there is such a call, and what the machine after it prints
+  abbrev pub told : M → ℕ → Option Call → (M → List ℕ) → List ℕ
+  told m i None rest = rest m
+  told m i (Some c) rest = line i (serve m (asked c) .1) ++ rest (serve m (asked c) .0)
 
--- the line of call i, if there is such a call, and what the world after it prints
-abbrev pub told : fold.Sizes → fold.World → ℕ → Option Call → (fold.World → List ℕ) → List ℕ
-told z w i None rest = rest w
-told z w i (Some c) rest = line i (serve z w (asked c) .1) ++ rest (serve z w (asked c) .0)
+  -- n lines from call i of a row on
+  unfoldable pub lines-from : List ℕ → M → ℕ → ℕ → List ℕ
+  lines-from row m zero i = []
+  lines-from row m (suc n) i = told m i (call-at row i) (λ k. lines-from row k n (i + 1))
 
--- n lines from call i of a row on
-unfoldable pub lines-from : List ℕ → fold.Sizes → fold.World → ℕ → ℕ → List ℕ
-lines-from row z w zero i = []
-lines-from row z w (suc n) i = told z w i (call-at row i) (λ u. lines-from row z u n (i + 1))
-
+-- what the manager prints, from its opening on
 abbrev pub row-text : Sizes → List ℕ → ℕ → List ℕ
-row-text z row n = lines-from row (seen-sizes z) (fold.begin (seen-sizes z) (z .processes - 1)) n 0
-
--- the first refusal of two
-abbrev pub either-refusal : Option Refusal → Option Refusal → Option Refusal
-either-refusal None later = later
-either-refusal (Some e) later = Some e
+row-text z row n = lines-from (serve (seen-sizes z)) row (first (seen-sizes z) (z .frames) (z .places)) n 0
 
 abbrev pub unless : Option Refusal → List ℕ → List ℕ
 unless None text = text

@@ -6,15 +6,16 @@ ghost use lib.Chars.{codes};
 ghost use lib.ListN.{length, drop};
 ghost use Rattle.std.specs.Of.String.{string-bytes};
 ghost use Rattle.std.specs.Vec.{made};
-ghost use Rattle.requests.specs.Meaning.{answered};
+ghost use Rattle.requests.specs.Meaning.{answered, seen-sizes};
 ghost use Rattle.requests.specs.Ranges.{sizes-refusal};
-ghost use Rattle.requests.specs.Refusals.{unless-refused};
+ghost use Rattle.requests.specs.Refusals.{either-refusal, unless-refused};
 ghost use Rattle.requests.specs.Row.{row-refusal};
 ghost use Rattle.requests.specs.Text.{refusal-text};
-ghost use Rattle.rows.specs.Played.{played-text, row-text, either-refusal, line};
-use private::machine::Machine;
-use private::want::Want;
-use private::want::WantFromAlloc;
+ghost use Rattle.calls.specs.Memory.{serve};
+ghost use Rattle.machine.specs.Owned.{model};
+ghost use Rattle.rows.specs.Played.{played-text, row-text, line, lines-from, unless};
+use machine::machine::Machine;
+use machine::trouble::Trouble;
 use requests::answer::Answer;
 use requests::answer::AnswerDisplay;
 use requests::answer::Refusal;
@@ -28,14 +29,14 @@ use std::alloc::Global;
 const HEAD: usize = 10;
 
 // A line for each call, or the one line of a refusal.
-pub fn played(heap: Global, input: &[u8]) -> Result<String, Want>
+pub fn played(heap: Global, input: &[u8]) -> Result<String, AllocError>
     ensures { λ r. ⌜ made r (λ s. string-bytes s ≡ played-text (now (input .entry))) ⌝ }
 {
     let sizes = Sizes::from_bytes(input);
     let calls = after_head(input);
     match admitted(sizes, calls) {
         Ok(count) => lines(heap, sizes, calls, count),
-        Err(refusal) => Ok(refusal_line(heap, refusal)?),
+        Err(refusal) => refusal_line(heap, refusal),
     }
 }
 
@@ -63,14 +64,31 @@ fn refusal_line(heap: Global, refusal: Refusal) -> Result<String, AllocError>
     format!(heap, "{refusal}\n")
 }
 
-fn lines(heap: Global, sizes: Sizes, calls: &[u8], count: usize) -> Result<String, Want>
-    ensures { λ r. ⌜ made r (λ s. string-bytes s ≡ row-text sizes (now (calls .entry)) count) ⌝ }
+// A line for each call, from the opening of a machine on.
+fn lines(heap: Global, sizes: Sizes, calls: &[u8], count: usize) -> Result<String, AllocError>
+    ensures { λ r. ⌜ made r (λ s. string-bytes s ≡ unless (sizes-refusal sizes) (row-text sizes (now (calls .entry)) count)) ⌝ }
 {
-    let mut machine = Machine::open(heap, sizes)?;
+    match Machine::open(heap, sizes) {
+        Ok(machine) => served(heap, machine, calls, count),
+        Err(Trouble::Refused(refusal)) => refusal_line(heap, refusal),
+        Err(Trouble::Memory) => Err(AllocError),
+    }
+}
+
+// A line for each call, as the machine answers it.
+fn served(
+    heap: Global,
+    machine: Machine,
+    calls: &[u8],
+    count: usize,
+) -> Result<String, AllocError>
+    ensures { λ r. ⌜ made r (λ s. string-bytes s ≡ lines-from (serve (seen-sizes (machine .manager .sizes))) (now (calls .entry)) (model machine) count 0) ⌝ }
+{
+    let mut machine = machine;
     let mut text = String::new(heap);
     for i in 0..count {
         if let Some(call) = row::call_at(calls, i) {
-            let answer = machine.call(call)?;
+            let answer = machine.call(call);
             add_line(heap, &mut text, i, answer)?;
         }
     }

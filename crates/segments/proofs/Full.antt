@@ -2,10 +2,10 @@
 use mathlib.Core.Logic.{_⊎_, inl, inr}
 use mathlib.Core.Path.{_≡_, refl, sym, ap, _∙_}
 use Prim.Native.Nat.{ℕ}
-use native.Mathlib.Omega.{arith}
 use Rattle.std.specs.declared.option.Option.{Option}
 use Rattle.std.specs.declared.option.Option.the-variants.{Some, None}
 use Rattle.frames.specs.Counts.{lowest-free}
+use Rattle.lookaside.proofs.Options.{none≢some}
 use Rattle.disk.specs.declared.registers.Taken.{Taken}
 use Rattle.disk.specs.Whole.{Choice, Whole, take-frame, taken-by}
 use Rattle.disk.proofs.Taking.{none-only-if-full}
@@ -13,9 +13,6 @@ use Rattle.copies.specs.Laws.{Used-up}
 use Rattle.segments.specs.declared.make.Made.{Made}
 use Rattle.segments.specs.Make.{made-by, make-of, make-segment}
 use Rattle.segments.specs.Full.{No-room, Make-full, Make-full-exactly}
-
-none≢some : (t : Made) → None ≡ Some t → ⊥
-none≢some t e = let z : _≡_ {A = ℕ} 0 1 = cc in omega arith
 
 module _ (choose : Choice) (frames : ℕ) (w : Whole) (p v : ℕ) where
   not-made : (u : Whole) (s : ℕ) (t : Option Taken) → made-by frames u p v s t .1 ≡ None → (t ≡ None) × (made-by frames u p v s t .0 ≡ u)

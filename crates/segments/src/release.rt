@@ -105,7 +105,8 @@ fn leave(
     ensures { λ _. ⌜ ((pages processes : ℕ) (table used frames disk : List ℕ) → view limits pages processes (lent table (now (segments .exit)) (now (lookers .exit)) (now («frame_counts» .exit)) used (now («place_counts» .exit)) frames disk) ≡ left (view limits pages processes (lent table (now (segments .entry)) (now (lookers .entry)) (now («frame_counts» .entry)) used (now («place_counts» .entry)) frames disk)) segment) ⌝ }
 {
     count_down(lookers, segment);
-    if lookers[segment] == 0 {
+    let unseen = lookers[segment] == 0;
+    if unseen {
         give_back(segments, frame_counts, place_counts, limits, segment);
     }
 }

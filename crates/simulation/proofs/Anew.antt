@@ -18,7 +18,8 @@ use Rattle.tables.specs.Cells.{Held, nothing, zeros, at, segment}
 use Rattle.lookaside.specs.declared.slots.Slot.{Slot}
 use Rattle.disk.specs.declared.registers.Taken.{Taken}
 use Rattle.disk.specs.Whole.{Choice, Whole, settled, take-frame, taken-by}
-use Rattle.disk.proofs.Taking.{none-only-if-full, none≢some}
+use Rattle.lookaside.proofs.Options.{none≢some}
+use Rattle.disk.proofs.Taking.{none-only-if-full}
 use Rattle.copies.specs.Anew.{filled-by, read-by, stored-anew, written-by}
 use Rattle.copies.specs.Laws.{Used-up}
 use Rattle.copies.specs.Own.{must-copy}

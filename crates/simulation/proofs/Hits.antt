@@ -16,7 +16,7 @@ use Rattle.tables.specs.State.{Spot, Walked, blank, lies, nowhere, walk, walked
 use Rattle.lookaside.specs.declared.slots.Slot.{Slot}
 use Rattle.lookaside.specs.Purge.{lies-at}
 use Rattle.lookaside.specs.Slots.{find-slot, hit, hits, slot-of}
-use Rattle.disk.proofs.Taking.{none≢some, some-same}
+use Rattle.lookaside.proofs.Options.{none≢some, some-same}
 use Rattle.calls.specs.Machine.{Machine}
 use Rattle.calls.specs.Calls.{holds}
 use Rattle.simulation.specs.Over.{looks-at, over}

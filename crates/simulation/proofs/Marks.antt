@@ -15,7 +15,7 @@ use Rattle.lookaside.specs.declared.slots.Slot.{Slot}
 use Rattle.lookaside.specs.Purge.{answered-so, true-slot}
 use Rattle.lookaside.specs.Slots.{put-slot, slot-of}
 use Rattle.disk.specs.Whole.{with-used}
-use Rattle.disk.proofs.Taking.{some-same}
+use Rattle.lookaside.proofs.Options.{some-same}
 use Rattle.calls.specs.Machine.{Machine, with-whole}
 use Rattle.calls.specs.Calls.{remembered, used-in}
 use Rattle.simulation.proofs.Sim.{Sim, Slots-true, state}

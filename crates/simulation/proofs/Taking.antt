@@ -18,7 +18,8 @@ use Rattle.lookaside.proofs.Laws.{purged-is-true}
 use Rattle.disk.specs.declared.registers.Taken.{Taken}
 use Rattle.disk.specs.Whole.{Choice, Whole, free-frame, free-place, sent-out, settled, take-frame, taken-by}
 use Rattle.disk.proofs.Follows.{swapped-y}
-use Rattle.disk.proofs.Taking.{free-at, none≢some, some-same}
+use Rattle.lookaside.proofs.Options.{none≢some, some-same}
+use Rattle.disk.proofs.Taking.{free-at}
 use Rattle.calls.specs.Machine.{Machine, with-whole}
 use Rattle.simulation.specs.Run.{Usable}
 use Rattle.simulation.proofs.Moves.{Moved, out-moved, stayed}

@@ -34,7 +34,7 @@ map-put f a k xs ys =
     map-append f (take a xs) (ys ++ drop k (drop a xs)) ∙ ap (λ zs. zs ++ map f (ys ++ drop k (drop a xs))) (sym (take-map f a xs))
     ∙ ap (λ zs. take a (map f xs) ++ zs) (map-append f ys (drop k (drop a xs)) ∙ ap (λ zs. map f ys ++ zs) (sym (ap (drop k) (drop-map f a xs) ∙ drop-map f k (drop a xs))))
 
-map-replicate : {X Y : Type 0} (f : X → Y) (n : ℕ) (x : X) → map f (replicate n x) ≡ replicate n (f x)
+pub map-replicate : {X Y : Type 0} (f : X → Y) (n : ℕ) (x : X) → map f (replicate n x) ≡ replicate n (f x)
 map-replicate f zero x = refl
 map-replicate f (suc n) x = ap (λ ys. f x ∷ ys) (map-replicate f n x)
 

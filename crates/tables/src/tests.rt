@@ -80,3 +80,17 @@ fn a_walk_finds_pages() -> Result<(), Fail> {
     let segment = walk(&table, &segments, &frames, &places, LIMITS, 3, 0, 1);
     check(segment.lies == Lies::Place(0) && segment.free)
 }
+
+// The least table: one process of one page. A fork onto itself only sets the mark.
+#[test]
+fn one_entry() -> Result<(), Fail> {
+    let mut table = [0u16];
+    check(read(&table, LIMITS, 1, 0, 0) == Entry::absent())?;
+    write(&mut table, 1, 0, 0, plain!(Target::Frame(1)));
+    copy_row(&mut table, LIMITS, 1, 0, 0);
+    check(read(&table, LIMITS, 1, 0, 0) == marked!(Target::Frame(1)))?;
+    let found = walk(&table, &[0], &[0, 1], &[0], LIMITS, 1, 0, 0);
+    check(found.lies == Lies::Frame(1) && found.free)?;
+    clear_row(&mut table, 1, 0);
+    check(table[0] == 0)
+}

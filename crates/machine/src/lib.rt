@@ -1,0 +1,5 @@
+// A machine with memory of its own on the heap: the manager, and all that is lent to it.
+pub mod machine;
+mod open;
+mod serve;
+pub mod trouble;
