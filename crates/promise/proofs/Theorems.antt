@@ -10,6 +10,7 @@ use Rattle.fold.proofs.Theorems.{apart, child}
 use Rattle.frames.specs.Turn.{Goes-round, start, turn}
 use Rattle.frames.proofs.Turn.{hand-goes-round}
 use Rattle.tables.specs.State.{lies, walk}
+use Rattle.disk.proofs.Keeps.{bring-keeps-bytes, take-keeps-bytes}
 use Rattle.calls.specs.Machine.{Machine, first}
 use Rattle.calls.specs.Calls.{calls}
 use Rattle.simulation.specs.Run.{Usable}
@@ -17,7 +18,7 @@ use Rattle.simulation.specs.Shown.{must, page-bytes}
 use Rattle.simulation.proofs.Forked.{fork-memory}
 use Rattle.simulation.proofs.Grows.{held-in-use, held-stored, make-full, own-wide, store-full}
 use Rattle.simulation.proofs.Hand.{chosen-brought, chosen-taken, frame-given, free-brought, free-taken}
-use Rattle.simulation.proofs.Kept.{bring-keeps, nobody-at, nothing-used, one-page, slot-walk, somebody-at, take-keeps}
+use Rattle.simulation.proofs.Kept.{nobody-at, nothing-used, one-page, ready, slot-walk, somebody-at}
 use Rattle.simulation.proofs.Outcome.{refused-same}
 use Rattle.simulation.proofs.Run.{Reached, next, opening, reaches, same-answers-from}
 use Rattle.simulation.proofs.Shown.{absent-nowhere, blank-zeros, copies-when, free-own, free-seen, lies-shown, own-lies, seen-lies, zero-blank}
@@ -91,7 +92,11 @@ walks-right =
 
 pub disk-keeps-bytes : Disk-keeps-bytes
 disk-keeps-bytes =
-    everywhere (λ z frames m _. Disk-keeps z frames m) (λ z m w r. record { taking = λ choose u. take-keeps (r .sim) choose u; bringing = λ choose d u. bring-keeps (r .sim) choose u d })
+    everywhere (λ z frames m _. Disk-keeps z frames m) (λ z m w r.
+    record {
+      taking = λ choose c. take-keeps-bytes choose (m .frames) (m .whole) (ready (r .sim) choose c);
+      bringing = λ choose d c h. bring-keeps-bytes choose (m .frames) d (m .whole) (ready (r .sim) choose c) (omega (arith, r .sim .shape .counts));
+    })
 
 -- one call more, and then another, are answered as the private machine answers them
 module _ {z : Sizes} {frames : ℕ} {m : Machine} {w : World} (r : Reached z frames m w) where

@@ -5,18 +5,18 @@ use Rattle.std.specs.declared.option.Option.the-variants.{Some, None}
 use Rattle.fold.specs.Fold.{Sizes, World, held}
 use Rattle.frames.specs.Turn.{Goes-round, Turned, start, turn}
 use Rattle.disk.specs.Follows.{Same-bytes}
+use Rattle.disk.specs.Frames.{Chooses}
 use Rattle.disk.specs.Whole.{Choice, bring-in, free-frame, take-frame}
 use Rattle.calls.specs.Machine.{Machine}
-use Rattle.simulation.specs.Run.{Usable}
 use Rattle.simulation.specs.Shown.{as-taken}
 use Rattle.promise.specs.Reached.{Everywhere, state}
 
--- Whichever frame is chosen to be emptied: every page of every process and every segment shows the bytes that it showed.
+-- Whichever of the frames is chosen to be emptied: every page of every process and every segment shows the bytes that it showed.
 pub record Disk-keeps (z : Sizes) (frames : ℕ) (m : Machine) : Type 0 where
   -- after a frame was taken, whose page may have gone out to the disk
-  pub taking : (choose : Choice) → Usable choose frames → Same-bytes (state m) (take-frame choose frames (m .whole) .0 .state)
+  pub taking : (choose : Choice) → Chooses choose frames (m .whole) → Same-bytes (state m) (take-frame choose frames (m .whole) .0 .state)
   -- after the page in place d has come in from the disk, for which another may have gone out
-  pub bringing : (choose : Choice) (d : ℕ) → Usable choose frames → frames + d < z .hold → Same-bytes (state m) (bring-in choose frames d (m .whole) .0 .state)
+  pub bringing : (choose : Choice) (d : ℕ) → Chooses choose frames (m .whole) → frames + d < z .hold → Same-bytes (state m) (bring-in choose frames d (m .whole) .0 .state)
 
 abbrev pub Disk-keeps-bytes : Type 0
 Disk-keeps-bytes = Everywhere (λ z frames m w. Disk-keeps z frames m)

@@ -1,8 +1,8 @@
--- Nothing is lost and nothing is left over: who lies at one location, which locations are in use, and that moving pages changes no byte.
+-- Nothing is lost and nothing is left over: who lies at one location, which locations are in use, and that pages may move.
 use mathlib.Core.Bool.{false}
 use mathlib.Core.Logic.{_≢_, _⊎_, inl, inr}
 use mathlib.Core.Path.{_≡_, refl, sym, ap, _∙_}
-use Prim.Native.Nat.{ℕ, _+_, _<_}
+use Prim.Native.Nat.{ℕ, _<_}
 use native.Mathlib.Omega.{arith}
 use lib.ListN.{getD}
 use Rattle.std.proofs.shelf.Lists.{getD-past}
@@ -12,22 +12,19 @@ use Rattle.fold.specs.Fold.{Sizes, World, absent, page}
 use Rattle.fold.proofs.Held.{Looks, looks-of}
 use Rattle.fold.proofs.Pages.{page-is}
 use Rattle.tables.specs.Cells.{Held, Cell, none, nothing, zeros, at, segment}
-use Rattle.tables.specs.State.{Spot, nowhere, blank, lies, walk, walked-segment}
+use Rattle.tables.specs.State.{lies, walk, walked-segment}
 use Rattle.lookaside.specs.declared.slots.Slot.{Slot}
-use Rattle.disk.specs.Follows.{Nobody-at, Same-bytes, bytes-at, names, segment-spot}
-use Rattle.disk.specs.Whole.{Choice, Whole, bring-in, free-frame, free-place, take-frame}
+use Rattle.disk.specs.Follows.{Nobody-at, names, segment-spot}
+use Rattle.disk.specs.Frames.{Chooses, Ready}
+use Rattle.disk.specs.Whole.{Choice}
 use Rattle.calls.specs.Machine.{Machine, living}
 use Rattle.calls.specs.Calls.{holds}
 use Rattle.simulation.specs.Over.{over}
-use Rattle.simulation.specs.Run.{Usable}
 use Rattle.simulation.proofs.Hits.{lies-same, lies-there, same-right, spot, walk-lies}
-use Rattle.simulation.proofs.Moves.{Moved, held-to, spot-to, walk-moved}
-use Rattle.simulation.proofs.Reaching.{brought}
 use Rattle.simulation.proofs.Room.{segments-apart}
 use Rattle.simulation.proofs.Shown.{absent-nowhere, page-as, seen-holds, walks}
 use Rattle.simulation.proofs.Sim.{Sim, Slots-true, state}
 use Rattle.simulation.proofs.Sums.{over-member}
-use Rattle.simulation.proofs.Taking.{taken}
 use Rattle.simulation.proofs.Users.{lies-alone, lookers-same, names-some, no-segment-there, segment-names, segment-there}
 
 -- where a segment lies is what its entry names
@@ -122,33 +119,12 @@ module _ {z : Sizes} {lab : ℕ → ℕ} {m : Machine} {w : World} (sim : Sim z 
       let may = same-right _ (s .free) (right .1) in
       ((λ j. record { spot = where-it-is j; free = may j }), ltb-true (s .frame) (m .frames) (there .1))
 
-  -- Pages that have moved show what they showed: each location that somebody names took its bytes with it.
-  pub moved-bytes : (whole : Whole) (lab′ to : ℕ → ℕ) → Moved z lab m w whole lab′ to → Same-bytes (state m) (whole .state)
-  moved-bytes whole lab′ to k =
+  -- pages may move: counts are right, and each location has its count and its page
+  pub ready : (choose : Choice) → Chooses choose (m .frames) (m .whole) → Ready choose (m .frames) (m .whole)
+  ready choose chooses =
       record {
-        page = λ p v. ap (bytes-at (whole .state)) (spot (walk-moved z lab m w whole lab′ to k p v)) ∙ by-spot p v (walk (state m) p v .spot) refl;
-        segment = λ s. ap (λ h. bytes-at (whole .state) (walked-segment h .spot)) (k .segments s) ∙ by-held s (getD (state m .segments) s none .holds) refl;
+        right = λ l h. sim .counts l (omega (arith, sim .shape .counts));
+        chooses = chooses;
+        within = omega (arith, sim .shape .within, sim .shape .counts);
+        pages = sim .shape .pages ∙ sym (sim .shape .counts);
       }
-    where
-      by-spot : (p v : ℕ) (s : Spot) → walk (state m) p v .spot ≡ s → bytes-at (whole .state) (spot-to to s) ≡ bytes-at (state m) s
-      by-spot p v nowhere e = refl
-      by-spot p v blank e = refl
-      by-spot p v (lies l) e = let a = walk-lies z lab m w sim p v l e in k .bytes l (a .0) (a .1)
-
-      by-held : (s : ℕ) (h : Held) → getD (state m .segments) s none .holds ≡ h → bytes-at (whole .state) (walked-segment (held-to to h) .spot) ≡ bytes-at (state m) (walked-segment h .spot)
-      by-held s nothing e = refl
-      by-held s zeros e = refl
-      by-held s (at l) e =
-          let c = segment-counted s l (ap (λ h. walked-segment h .spot) e) in
-          let a = lies-alone sim s l (c .0) (c .1) in k .bytes l (a .0) (λ none. omega (arith, a .1))
-      by-held s (segment t) e = refl
-
-  module _ (choose : Choice) (usable : Usable choose (m .frames)) where
-    pub take-keeps : Same-bytes (state m) (take-frame choose (m .frames) (m .whole) .0 .state)
-    take-keeps = let k = taken z lab m w sim choose usable in moved-bytes _ (k .lab′) (k .to) (k .moved)
-
-    pub bring-keeps : (d : ℕ) → m .frames + d < z .hold → Same-bytes (state m) (bring-in choose (m .frames) d (m .whole) .0 .state)
-    unfolding bring-in
-    bring-keeps d h =
-        let k = brought z lab m w sim choose usable d h (free-frame (m .frames) (m .whole)) (free-place (m .frames) (m .whole)) refl refl in
-        moved-bytes _ (k .lab′) (k .to) (k .moved)

@@ -44,7 +44,7 @@ fetched-moved z lab m w sim f d hf hd free =
 
 module _ (z : Sizes) (lab : ℕ → ℕ) (m : Machine) (w : World) (sim : Sim z lab m w) (choose : Choice) (usable : Usable choose (m .frames)) where
   -- it comes from place d: to a frame that is free; to the chosen one, whose page goes out first; or it changes places with that page
-  pub brought : (d : ℕ) → m .frames + d < z .hold → (a b : Option ℕ) → free-frame (m .frames) (m .whole) ≡ a → free-place (m .frames) (m .whole) ≡ b →
+  brought : (d : ℕ) → m .frames + d < z .hold → (a b : Option ℕ) → free-frame (m .frames) (m .whole) ≡ a → free-place (m .frames) (m .whole) ≡ b →
       Reached z lab m w (m .frames + d) (brought-by choose (m .frames) d (m .whole) a b)
   brought d h (Some f) b e k =
       let free = free-frame-at z lab m w sim f e in
