@@ -26,13 +26,14 @@ use Rattle.copies.specs.Own.{must-copy}
 use Rattle.copies.specs.Stores.{copy-stored, first-stored, own-cell}
 use Rattle.calls.specs.Machine.{Machine, living, with-whole}
 use Rattle.calls.specs.Calls.{holds, own-stored, stored-in}
-use Rattle.simulation.proofs.Load.{Together}
+use Rattle.simulation.specs.Run.{Usable}
 use Rattle.simulation.proofs.Moves.{held-to}
 use Rattle.simulation.proofs.Puts.{Put, copy-put, put-sim, put-state, put-walk, relabelled, zeros-put}
 use Rattle.simulation.proofs.Room.{full-used-up, used-up-full}
 use Rattle.simulation.proofs.Sim.{Sim, Slots-true, see, state}
+use Rattle.simulation.proofs.Step.{Together}
 use Rattle.simulation.proofs.Storing.{own-same, stored-so}
-use Rattle.simulation.proofs.Taking.{Usable, settled-true, taken}
+use Rattle.simulation.proofs.Taking.{settled-true, taken}
 
 -- frame f is free: it becomes the page's own
 module _ (z : Sizes) (lab : ℕ → ℕ) (m : Machine) (w : World) (sim : Sim z lab m w) (p v o b f : ℕ) (alive : living m p ≡ true) (range : v < z .pages)

@@ -17,8 +17,9 @@ use Rattle.tables.specs.Rows.{entry-of}
 use Rattle.disk.specs.Follows.{names}
 use Rattle.calls.specs.Machine.{living, first}
 use Rattle.calls.specs.Calls.{holds}
-use Rattle.simulation.proofs.Sums.{over, over-member}
-use Rattle.simulation.proofs.Sim.{Shape, Sim, Slots-true, see, looks-at}
+use Rattle.simulation.specs.Over.{looks-at, over}
+use Rattle.simulation.proofs.Sums.{over-member}
+use Rattle.simulation.proofs.Sim.{Shape, Sim, Slots-true, see}
 use Rattle.simulation.proofs.Users.{nothing≢at, nothing≢segment, sumBy-none}
 
 others-wide : (pages n q : ℕ) → q < n → length (getD (others pages n) q nobody .pages) ≡ pages

@@ -16,8 +16,9 @@ use Rattle.tables.specs.Rows.{entry-of, with-entry}
 use Rattle.disk.specs.Follows.{names, namers}
 use Rattle.calls.specs.Machine.{Machine, living}
 use Rattle.calls.specs.Calls.{holds}
-use Rattle.simulation.proofs.Sums.{over, over-put, entry-put, entry-other}
-use Rattle.simulation.proofs.Sim.{Lying, Sim, state, see, looks-at}
+use Rattle.simulation.specs.Over.{looks-at, over}
+use Rattle.simulation.proofs.Sums.{over-put, entry-put, entry-other}
+use Rattle.simulation.proofs.Sim.{Lying, Sim, state, see}
 use Rattle.simulation.proofs.Users.{at-same}
 
 -- another page than page v of p

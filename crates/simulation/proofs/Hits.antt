@@ -19,14 +19,15 @@ use Rattle.lookaside.specs.Slots.{find-slot, hit, hits, slot-of}
 use Rattle.lookaside.proofs.Options.{none≢some, some-same}
 use Rattle.calls.specs.Machine.{Machine}
 use Rattle.calls.specs.Calls.{holds}
+use Rattle.simulation.specs.Over.{looks-at, over}
 use Rattle.simulation.proofs.Moves.{named-counted}
-use Rattle.simulation.proofs.Sim.{Lying, Sim, Slots-true, looks-at, see, state}
-use Rattle.simulation.proofs.Sums.{over, over-below}
+use Rattle.simulation.proofs.Sim.{Lying, Sim, Slots-true, see, state}
+use Rattle.simulation.proofs.Sums.{over-below}
 
 pub spot : {a b : Walked} → a ≡ b → a .spot ≡ b .spot
 spot e = ap (λ (a : Walked). a .spot) e
 
-lies-same : {x y : ℕ} → lies x ≡ lies y → x ≡ y
+pub lies-same : {x y : ℕ} → lies x ≡ lies y → x ≡ y
 lies-same e = cc
 
 all-zeros : (o : ℕ) → getD {A = ℕ} (replicate 256 0) o 0 ≡ 0
@@ -93,12 +94,12 @@ module _ (z : Sizes) (lab : ℕ → ℕ) (m : Machine) (w : World) (sim : Sim z 
     walk-nowhere k = nowhere-by (holds m p v) refl k
 
 -- a walk that a slot answers comes to the slot's frame
-lies-there : (s : Spot) (f : ℕ) → lies-at s f ≡ true → s ≡ lies f
+pub lies-there : (s : Spot) (f : ℕ) → lies-at s f ≡ true → s ≡ lies f
 lies-there nowhere f e = absurd (false≢true e)
 lies-there blank f e = absurd (false≢true e)
 lies-there (lies x) f e = ap lies (eqb-true x f e)
 
-same-right : (a b : Bool) → cond a b (not b) ≡ true → a ≡ b
+pub same-right : (a b : Bool) → cond a b (not b) ≡ true → a ≡ b
 same-right true b e = sym e
 same-right false true e = e
 same-right false false e = refl

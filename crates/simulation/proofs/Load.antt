@@ -13,18 +13,12 @@ use Rattle.disk.specs.Whole.{Choice}
 use Rattle.copies.specs.Own.{reached}
 use Rattle.calls.specs.Machine.{Machine, living, with-whole}
 use Rattle.calls.specs.Calls.{calls-by, load-by, load-walked, slot-found}
+use Rattle.simulation.specs.Run.{Usable}
 use Rattle.simulation.proofs.Hits.{slot-walks, walk-blank, walk-lies, walk-nowhere}
 use Rattle.simulation.proofs.Marks.{remembered-sim, remembered-true, used-sim}
 use Rattle.simulation.proofs.Reaching.{page-reached, reached-bytes, reached-walk}
 use Rattle.simulation.proofs.Sim.{Sim, Slots-true, state}
-use Rattle.simulation.proofs.Taking.{Usable}
-
--- after a call both machines still go together, and they have answered the same
-pub record Together (z : Sizes) (m : Machine × Answer) (w : World × Answer) : Type 0 where
-  pub lab : ℕ → ℕ
-  pub sim : Sim z lab (m .0) (w .0)
-  pub slots : Slots-true (m .0)
-  pub same : m .1 ≡ w .1
+use Rattle.simulation.proofs.Step.{Together}
 
 module _ (z : Sizes) (lab : ℕ → ℕ) (m : Machine) (w : World) (sim : Sim z lab m w) (all : Slots-true m) (choose : Choice) (usable : Usable choose (m .frames))
     (p v o : ℕ) where

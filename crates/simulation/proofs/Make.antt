@@ -30,7 +30,8 @@ use Rattle.segments.specs.Release.{looked}
 use Rattle.segments.proofs.Full.{make-full-exactly}
 use Rattle.calls.specs.Machine.{Machine, living, with-whole}
 use Rattle.calls.specs.Calls.{holds, calls-by, changed, made}
-use Rattle.simulation.proofs.Sim.{Lying, Sim, Slots-true, state, see, looks-at}
+use Rattle.simulation.specs.Over.{looks-at}
+use Rattle.simulation.proofs.Sim.{Lying, Sim, Slots-true, state, see}
 use Rattle.simulation.proofs.Users.{entry-names, lookers-same}
 use Rattle.simulation.proofs.Room.{used-up-full, full-used-up, segment-same, no-segment-left}
 use Rattle.simulation.proofs.Step.{Step, step-by, refused, by-test, changed-true}

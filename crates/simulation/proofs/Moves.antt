@@ -21,8 +21,9 @@ use Rattle.disk.specs.Whole.{Whole, with-used}
 use Rattle.disk.proofs.Follows.{map-at, swapped-twice, swapped-within, swap-follows, entry-follows, segment-renamed, out-page, in-page, sumBy-map, counts-follow}
 use Rattle.calls.specs.Machine.{Machine, with-whole}
 use Rattle.calls.specs.Calls.{holds}
-use Rattle.simulation.proofs.Sums.{over, over-row, over-below}
-use Rattle.simulation.proofs.Sim.{Sim, Shape, Lying, state, see, looks-at}
+use Rattle.simulation.specs.Over.{looks-at, over, over-row}
+use Rattle.simulation.proofs.Sums.{over-below}
+use Rattle.simulation.proofs.Sim.{Sim, Shape, Lying, state, see}
 
 -- an entry that names l afterwards named the location that is l now; one that looks at a segment still does
 named-back : (x y l : ℕ) (h : Held) → held-swapped x y h ≡ at l → h ≡ at (swapped x y l)

@@ -23,8 +23,9 @@ use Rattle.segments.specs.Release.{dropped, unnamed, given-back, lowered, with-
 use Rattle.calls.specs.Machine.{Machine, living, with-whole}
 use Rattle.calls.specs.Calls.{holds, changed}
 use Rattle.calls.specs.Pages.{raised}
+use Rattle.simulation.specs.Over.{looks-at}
 use Rattle.simulation.proofs.Sums.{over-below}
-use Rattle.simulation.proofs.Sim.{Sim, state, see, looks-at}
+use Rattle.simulation.proofs.Sim.{Sim, state, see}
 use Rattle.simulation.proofs.Users.{names-some, entry-names, no-segment-there, segment-names, lies-alone, count-small, lookers-small, nothing≢at, nothing≢segment}
 use Rattle.simulation.proofs.Room.{segments-apart}
 use Rattle.simulation.proofs.Entries.{entry-sim}

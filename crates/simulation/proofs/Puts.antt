@@ -19,9 +19,10 @@ use Rattle.lookaside.specs.declared.slots.Slot.{Slot}
 use Rattle.disk.specs.Follows.{names}
 use Rattle.calls.specs.Machine.{Machine, living, with-whole}
 use Rattle.calls.specs.Calls.{holds}
+use Rattle.simulation.specs.Over.{looks-at}
 use Rattle.simulation.proofs.Entries.{Entry-changed, Other, each, entry-sim, holds-here}
 use Rattle.simulation.proofs.Naming.{down-is, up-is}
-use Rattle.simulation.proofs.Sim.{Lying, Sim, looks-at, see, state}
+use Rattle.simulation.proofs.Sim.{Lying, Sim, see, state}
 use Rattle.simulation.proofs.Sums.{over-below, over-two}
 use Rattle.simulation.proofs.Users.{at-same, names-one, segment-names}
 

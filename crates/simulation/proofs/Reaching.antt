@@ -20,10 +20,11 @@ use Rattle.disk.proofs.Follows.{swapped-other, swapped-y}
 use Rattle.copies.specs.Own.{reached}
 use Rattle.calls.specs.Machine.{Machine, with-whole}
 use Rattle.calls.specs.Calls.{holds}
+use Rattle.simulation.specs.Run.{Usable}
 use Rattle.simulation.proofs.Hits.{walk-lies}
 use Rattle.simulation.proofs.Moves.{Moved, exchange-moved, held-to, in-moved, moved-on, named-counted, spot-to, stayed, walk-moved}
 use Rattle.simulation.proofs.Sim.{Sim, Slots-true, state}
-use Rattle.simulation.proofs.Taking.{Usable, chosen, chosen-within, free-frame-at, free-place-at, sent, sent-free}
+use Rattle.simulation.proofs.Taking.{chosen, chosen-within, free-frame-at, free-place-at, sent, sent-free}
 
 -- The page at x was asked for: r is what all is then, and the frame where the page is. A location that nobody names has no page: what was there need not land.
 pub record Reached (z : Sizes) (lab : ℕ → ℕ) (m : Machine) (w : World) (x : ℕ) (r : Whole × Taken) : Type 0 where

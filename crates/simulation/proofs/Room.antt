@@ -27,7 +27,8 @@ use Rattle.disk.specs.Follows.{names, namers}
 use Rattle.copies.specs.Laws.{Used-up}
 use Rattle.calls.specs.Machine.{Machine, living, lowest-absent}
 use Rattle.calls.specs.Calls.{holds}
-use Rattle.simulation.proofs.Sums.{over, over-member}
+use Rattle.simulation.specs.Over.{over}
+use Rattle.simulation.proofs.Sums.{over-member}
 use Rattle.simulation.proofs.Sim.{Sim, state, see}
 use Rattle.simulation.proofs.Users.{names-one, names-some, at-same, segment-there, segment-names, lies-alone, entry-names, no-segment-there, lookers-same}
 
@@ -111,7 +112,7 @@ first-free-gone (q ∷ qs) =
 
 module _ {z : Sizes} {lab : ℕ → ℕ} {m : Machine} {w : World} (sim : Sim z lab m w) where
   -- a page with a label other than 0 is at the location of that label
-  own-at : (p v l : ℕ) (ws : List ℕ) → l ≢ 0 → (h : Held) → holds m p v ≡ h → see lab (state m .pages) h ≡ own l ws → (x : ℕ) × (holds m p v ≡ at x) × (lab x ≡ l)
+  pub own-at : (p v l : ℕ) (ws : List ℕ) → l ≢ 0 → (h : Held) → holds m p v ≡ h → see lab (state m .pages) h ≡ own l ws → (x : ℕ) × (holds m p v ≡ at x) × (lab x ≡ l)
   own-at p v l ws n nothing e k = let f : _≡_ {A = ℕ} 0 1 = cc in absurd (omega arith)
   own-at p v l ws n (segment s) e k = let f : _≡_ {A = ℕ} 0 1 = cc in absurd (omega arith)
   own-at p v l ws n zeros e k = let f : 0 ≡ l = cc in absurd (omega arith)

@@ -1,25 +1,22 @@
 -- The relation between the manager and the machine of private memories. `lab` says which label the page at each location has; it is a parameter and not kept
 -- anywhere, since pages that change places take their labels with them.
-use mathlib.Core.Bool.{Bool, true, false, cond}
+use mathlib.Core.Bool.{true}
 use mathlib.Core.List.{List, []}
 use mathlib.Core.Logic.{_≢_}
 use mathlib.Core.Path.{_≡_}
-use Prim.Native.Nat.{ℕ, _+_, _≤_, _<_}
-use lib.Dec.{eqb}
+use Prim.Native.Nat.{ℕ, _≤_, _<_}
 use lib.ListN.{length, getD, replicate}
-use Rattle.std.specs.declared.option.Option.{Option}
 use Rattle.std.specs.declared.option.Option.the-variants.{Some, None}
-use Rattle.fold.specs.Fold.{Page, Process, Sizes, World, absent, own, seen, process, page}
+use Rattle.fold.specs.Fold.{Page, Sizes, World, absent, own, seen, process, page}
 use Rattle.frames.specs.Cut.{row}
-use Rattle.tables.specs.Cells.{Held, Cell, none, nothing, zeros, at, segment}
+use Rattle.tables.specs.Cells.{Held, none, nothing, zeros, at, segment}
 use Rattle.tables.specs.State.{State}
 use Rattle.lookaside.specs.declared.slots.Slot.{Slot}
 use Rattle.lookaside.specs.Purge.{true-slot}
 use Rattle.disk.specs.Follows.{named}
-use Rattle.disk.specs.Whole.{Whole}
 use Rattle.calls.specs.Machine.{Machine, living}
 use Rattle.calls.specs.Calls.{holds}
-use Rattle.simulation.proofs.Sums.{over}
+use Rattle.simulation.specs.Over.{looks-at, over}
 
 abbrev pub state : Machine → State
 state m = m .whole .state
@@ -30,13 +27,6 @@ see lab ps nothing = absent
 see lab ps zeros = own 0 (replicate 256 0)
 see lab ps (at x) = own (lab x) (row ps x)
 see lab ps (segment s) = seen s
-
--- 1 where an entry looks at segment s
-abbrev pub looks-at : ℕ → Held → ℕ
-looks-at s nothing = 0
-looks-at s zeros = 0
-looks-at s (at x) = 0
-looks-at s (segment t) = cond (eqb s t) 1 0
 
 -- all lists are as long as the sizes say
 pub record Shape (z : Sizes) (m : Machine) (w : World) : Type 0 where

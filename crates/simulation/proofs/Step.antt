@@ -2,7 +2,7 @@
 use mathlib.Core.Bool.{Bool, true, cond}
 use mathlib.Core.List.{List, []}
 use mathlib.Core.Logic.{inl, inr}
-use mathlib.Core.Path.{_≡_, sym, ap, subst, _∙_}
+use mathlib.Core.Path.{_≡_, refl, sym, ap, subst, _∙_}
 use Prim.Native.Nat.{ℕ, _<_}
 use native.Mathlib.Omega.{arith}
 use lib.ListN.{length, getD}
@@ -15,22 +15,25 @@ use Rattle.calls.specs.Machine.{Machine, living}
 use Rattle.calls.specs.Calls.{calls-by, changed}
 use Rattle.simulation.proofs.Sim.{Sim, Slots-true, state}
 
-pub record Step (choose : Choice) (z : Sizes) (m : Machine) (w : World) (c : Call) : Type 0 where
+-- what both machines are after a call, and what they have answered: they still go together, and the answers are the same
+pub record Together (z : Sizes) (m : Machine × Answer) (w : World × Answer) : Type 0 where
   pub lab : ℕ → ℕ
-  pub sim : Sim z lab (calls-by choose z m c .0) (call z w c .0)
-  pub slots : Slots-true (calls-by choose z m c .0)
-  pub same : calls-by choose z m c .1 ≡ call z w c .1
+  pub sim : Sim z lab (m .0) (w .0)
+  pub slots : Slots-true (m .0)
+  pub same : m .1 ≡ w .1
+
+-- the same of equal outcomes
+pub carried : {z : Sizes} {r q : Machine × Answer} {s t : World × Answer} → q ≡ r → t ≡ s → Together z r s → Together z q t
+carried {z} {r} {q} {s} {t} e k h = subst (λ a. Together z a t) (sym e) (subst (λ a. Together z r a) (sym k) h)
+
+-- a call keeps both together
+abbrev pub Step : Choice → Sizes → Machine → World → Call → Type 0
+Step choose z m w c = Together z (calls-by choose z m c) (call z w c)
 
 -- both machines go the same way
 pub step-by : (choose : Choice) (z : Sizes) (m : Machine) (w : World) (c : Call) (m′ : Machine) (w′ : World) (a : Answer) (lab : ℕ → ℕ) → calls-by choose z m c ≡ (m′, a) →
     call z w c ≡ (w′, a) → Sim z lab m′ w′ → Slots-true m′ → Step choose z m w c
-step-by choose z m w c m′ w′ a lab e f sim slots =
-    record {
-      lab = lab;
-      sim = subst (λ (r : Machine × Answer). Sim z lab (r .0) (call z w c .0)) (sym e) (subst (λ (r : World × Answer). Sim z lab m′ (r .0)) (sym f) sim);
-      slots = subst (λ (r : Machine × Answer). Slots-true (r .0)) (sym e) slots;
-      same = ap (λ (r : Machine × Answer). r .1) e ∙ sym (ap (λ (r : World × Answer). r .1) f);
-    }
+step-by choose z m w c m′ w′ a lab e f sim slots = carried e f (record { lab = lab; sim = sim; slots = slots; same = refl })
 
 -- a call that is refused leaves both as they were
 pub refused : (choose : Choice) (z : Sizes) (m : Machine) (w : World) (c : Call) (a : Answer) (lab : ℕ → ℕ) → Sim z lab m w → Slots-true m → calls-by choose z m c ≡ (m, a) →

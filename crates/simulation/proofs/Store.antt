@@ -21,19 +21,15 @@ use Rattle.copies.specs.Own.{alone-by, must-copy, reached, stored-own, written-
 use Rattle.segments.specs.Reach.{put-by, reach-page, reached-by, stored-to-segment}
 use Rattle.calls.specs.Machine.{Machine, living, with-whole}
 use Rattle.calls.specs.Calls.{calls-by, holds, own-stored, segment-stored, slot-found, store-by, store-hit, store-walked}
+use Rattle.simulation.specs.Run.{Usable}
 use Rattle.simulation.proofs.Anew.{anew-together}
 use Rattle.simulation.proofs.Hits.{looked-lies, sees, slot-walks, spot, walks-segment}
-use Rattle.simulation.proofs.Load.{Together}
 use Rattle.simulation.proofs.Moves.{held-to, named-counted}
 use Rattle.simulation.proofs.Reaching.{page-reached, reached-count, reached-holds, reached-walk}
 use Rattle.simulation.proofs.Sim.{Sim, Slots-true, see, state}
+use Rattle.simulation.proofs.Step.{Together, carried}
 use Rattle.simulation.proofs.Storing.{hit-alone, hit-segment, stored-alone, stored-segment}
-use Rattle.simulation.proofs.Taking.{Usable}
 use Rattle.simulation.proofs.Users.{copy-same}
-
--- the same of equal outcomes
-carried : {z : Sizes} {r q : Machine × Answer} {s t : World × Answer} → q ≡ r → t ≡ s → Together z r s → Together z q t
-carried {z} {r} {q} {s} {t} e k h = subst (λ a. Together z a t) (sym e) (subst (λ a. Together z r a) (sym k) h)
 
 module _ (z : Sizes) (lab : ℕ → ℕ) (m : Machine) (w : World) (sim : Sim z lab m w) (all : Slots-true m) (choose : Choice) (usable : Usable choose (m .frames))
     (p v o b : ℕ) (alive : living m p ≡ true) (range : v < z .pages) where

@@ -17,10 +17,10 @@ use Rattle.copies.specs.Stores.{own-cell, stored-in-place}
 use Rattle.calls.specs.Machine.{Machine, living, with-whole}
 use Rattle.calls.specs.Calls.{holds, stored-in, used-in}
 use Rattle.simulation.proofs.Bytes.{segment-sim}
-use Rattle.simulation.proofs.Load.{Together}
 use Rattle.simulation.proofs.Marks.{remembered-sim, remembered-true, used-sim}
 use Rattle.simulation.proofs.Puts.{Put, alone-put, own-world, put-same, put-sim, put-state, put-walk, relabelled}
 use Rattle.simulation.proofs.Sim.{Sim, Slots-true, see, state}
+use Rattle.simulation.proofs.Step.{Together}
 
 -- the byte is in frame f: the mark is set, and the slot is put
 pub stored-so : (z : Sizes) (lab : ℕ → ℕ) (m : Machine) (w : World) → Sim z lab m w → Slots-true m → (p v f : ℕ) → walk (state m) p v ≡ record { spot = lies f; free = true } → f < m .frames →

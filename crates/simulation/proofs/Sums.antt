@@ -1,30 +1,22 @@
 -- Sums of a number over all entries of the page tables: one entry changed, another number, a member, two members, a bound.
 use mathlib.Core.List.{List, [], _∷_}
-use mathlib.Core.Logic.{_≢_, _⊎_, inl, inr}
-use mathlib.Core.Path.{_≡_, refl, sym, ap, subst, _∙_}
+use mathlib.Core.Logic.{_⊎_, inl, inr}
+use mathlib.Core.Path.{_≡_, sym, ap, _∙_}
 use Prim.Native.Nat.{ℕ, suc, _+_, _*_, _≤_, _<_}
 use native.Mathlib.Omega.{arith}
-use native.Mathlib.Nat.{mul-le-mul-left}
 use lib.ListN.{length, getD, set}
-use Rattle.std.specs.shelf.Lists.{sumBy, All}
 use Rattle.std.proofs.shelf.Elements.{all-from-getD}
 use Rattle.std.proofs.shelf.Sums.{sumBy-cons, sumBy-set, getD-le-sumBy, sumBy-le}
-use Rattle.std.proofs.shelf.Lists.{getD-past, getD-default, getD-set-same, getD-set-other, length-set, set-past}
+use Rattle.std.proofs.shelf.Lists.{getD-past, getD-default, getD-set-same, getD-set-other, set-past}
 use Rattle.std.proofs.shelf.Tests.{cases-lt, cases-eq}
 use Rattle.fold.proofs.Sums.{sumBy-cong, sumBy-member}
 use Rattle.frames.specs.Cut.{row}
 use Rattle.tables.specs.Cells.{Held, Cell, none, nothing}
 use Rattle.tables.specs.Rows.{entry-of, with-entry}
+use Rattle.simulation.specs.Over.{over, over-row}
 
 abbrev pub holds-at : List (List Cell) → ℕ → ℕ → Held
 holds-at rows p v = entry-of rows p v .holds
-
--- over a row, and over all rows
-abbrev pub over-row : (Held → ℕ) → List Cell → ℕ
-over-row f cs = sumBy (λ (c : Cell). f (c .holds)) cs
-
-abbrev pub over : (Held → ℕ) → List (List Cell) → ℕ
-over f rows = sumBy (over-row f) rows
 
 -- the entry that was written, and every other
 pub entry-put : (rows : List (List Cell)) (p v : ℕ) (c : Cell) → p < length rows → v < length (row rows p) → entry-of (with-entry rows p v c) p v ≡ c

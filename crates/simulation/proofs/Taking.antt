@@ -21,13 +21,9 @@ use Rattle.disk.proofs.Follows.{swapped-y}
 use Rattle.lookaside.proofs.Options.{none≢some, some-same}
 use Rattle.disk.proofs.Taking.{free-at}
 use Rattle.calls.specs.Machine.{Machine, with-whole}
+use Rattle.simulation.specs.Run.{Usable}
 use Rattle.simulation.proofs.Moves.{Moved, out-moved, stayed}
 use Rattle.simulation.proofs.Sim.{Sim, Slots-true, state}
-
--- a choice comes to one of the frames and keeps a mark for each
-abbrev pub Usable : Choice → ℕ → Type 0
-Usable choose frames =
-    (hand : ℕ) (used : List ℕ) → length used ≡ frames → (choose frames hand used .frame < frames) × (length (choose frames hand used .used) ≡ frames)
 
 -- the hand only clears marks
 marks-stay : (n more f k : ℕ) (used : List ℕ) → length (turn-from n more f k used .used) ≡ length used

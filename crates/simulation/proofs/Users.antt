@@ -19,8 +19,9 @@ use Rattle.tables.specs.Cells.{Held, Cell, none, nothing, zeros, at, segment}
 use Rattle.disk.specs.Follows.{names, namers}
 use Rattle.calls.specs.Machine.{Machine}
 use Rattle.calls.specs.Calls.{holds}
-use Rattle.simulation.proofs.Sums.{over, over-row, over-below, over-bound}
-use Rattle.simulation.proofs.Sim.{Sim, state, see, looks-at}
+use Rattle.simulation.specs.Over.{looks-at, over, over-row}
+use Rattle.simulation.proofs.Sums.{over-below, over-bound}
+use Rattle.simulation.proofs.Sim.{Sim, state, see}
 
 -- two lists of the same length that add up the same number at each index
 sumBy-same : {X Y : Type 0} (f : X → ℕ) (g : Y → ℕ) (xs : List X) (ys : List Y) (d : X) (e : Y) → length xs ≡ length ys → ((i : ℕ) → i < length xs → f (getD xs i d) ≡ g (getD ys i e)) → sumBy f xs ≡ sumBy g ys

@@ -1,0 +1,5 @@
+use Rattle.promise.proofs.Theorems.{refused-unchanged}
+use Rattle.promise.proofs.refused_unchanged.Needs as need
+
+pub returns : need.returns
+returns c = refused-unchanged
