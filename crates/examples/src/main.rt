@@ -15,7 +15,7 @@ fn main(rt: LibcRuntime) -> Result<(), AnyError> {
 fn play(rt: &LibcRuntime, name: &str) -> Result<(), AnyError> {
     let input = fs::read(rt, format!(rt.alloc(), "{name}.row")?)?;
     let expected = fs::read_to_string(rt, format!(rt.alloc(), "{name}.out")?)?;
-    match rows::played(rt.alloc(), input.as_slice()) {
+    match play::played(rt.alloc(), input.as_slice()) {
         Ok(text) => compare(rt, name, text.as_str(), expected.as_str()),
         Err(_) => Err("no memory".into()),
     }

@@ -6,7 +6,7 @@ use std::io::Write;
 fn main(rt: LibcRuntime) -> Result<(), AnyError> {
     let mut input = Vec::new(rt.alloc());
     rt.stdin().read_to_end(&mut input)?;
-    match rows::played(rt.alloc(), input.as_slice()) {
+    match play::played(rt.alloc(), input.as_slice()) {
         Ok(text) => {
             rt.stdout().write_all(text.as_bytes())?;
             Ok(())
