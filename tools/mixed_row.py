@@ -1,10 +1,14 @@
 #!/usr/bin/env python3
-"""Writes examples/mixed.row and mixed.out: calls chosen by a fixed seed, answered by a model of the rules of its own.
+"""Writes examples/mixed.row and mixed.out: calls chosen by a fixed seed, answered by two models of the rules of its own.
 
+The model of what processes see and the model of how pages are held (held_model.py) have to agree, but for the counts of reads and
+writes, which the second alone has. The row is also what `run` is run on, so crates/run/stdin and stdout are written too.
 With two arguments, COUNT and FILE, it writes only a row of that many calls for a machine of 16 processes and 64 pages."""
 import os
 import random
 import sys
+
+from held_model import Held
 
 
 class Model:
@@ -101,9 +105,10 @@ class Model:
         return 0
 
     def counts(self, *_):
-        return 0
+        return None  # what is seen has no disk
 
 
+ROOT = os.path.join(os.path.dirname(os.path.abspath(__file__)), "..")
 KINDS = ["fork", "leave", "map", "drop", "make", "look", "load", "store", "counts"]
 WEIGHTS = [8, 2, 12, 8, 8, 8, 20, 30, 1]
 
@@ -128,20 +133,35 @@ def head(*sizes):
     return b"".join(size.to_bytes(2, "little") for size in sizes)
 
 
-def mixed(folder):
+def answered(sizes, calls):
+    """What the calls are answered, by both models."""
+    processes, pages, segments, frames, places = sizes
+    seen, held = Model(processes, pages, segments, frames + places), Held(*sizes)
+    answers = [held.call(*c) for c in calls]
+    for i, (c, answer) in enumerate(zip(calls, answers)):
+        wanted = seen.call(*c)
+        assert c[0] == "counts" or answer == wanted, (i, c, answer, wanted)
+    return answers
+
+
+def write(names, contents):
+    for name in names:
+        with open(os.path.join(ROOT, name), "wb") as f:
+            f.write(contents)
+
+
+def mixed():
     rng = random.Random(7)
-    model = Model(5, 6, 3, 3 + 5)
-    calls = [chosen(rng, 5, 6) for _ in range(600)]
-    answers = [model.call(*c) for c in calls]
+    sizes = 5, 6, 3, 3, 5
+    calls = [chosen(rng, *sizes[:2]) for _ in range(600)]
+    answers = answered(sizes, calls)
     seen = {(c[0], a if isinstance(a, str) else "done") for c, a in zip(calls, answers)}
     for kind in KINDS[:-1]:
         assert (kind, "fault") in seen and (kind, "done") in seen, kind
     assert all((kind, "full") in seen for kind in ["fork", "make", "store"])
-    with open(os.path.join(folder, "mixed.row"), "wb") as f:
-        f.write(head(5, 6, 3, 3, 5) + b"".join(encoded(*c) for c in calls))
-    with open(os.path.join(folder, "mixed.out"), "w") as f:
-        for i, a in enumerate(answers):
-            f.write(f"{i} {a if isinstance(a, str) else 'done ' + str(a)}\n")
+    lines = [f"{i} {a if isinstance(a, str) else 'done ' + str(a)}\n" for i, a in enumerate(answers)]
+    write(["examples/mixed.row", "crates/run/stdin"], head(*sizes) + b"".join(encoded(*c) for c in calls))
+    write(["examples/mixed.out", "crates/run/stdout"], "".join(lines).encode())
 
 
 if len(sys.argv) == 3:
@@ -149,4 +169,4 @@ if len(sys.argv) == 3:
     with open(sys.argv[2], "wb") as f:
         f.write(head(16, 64, 16, 512, 512) + b"".join(encoded(*chosen(rng, 16, 64)) for _ in range(int(sys.argv[1]))))
 else:
-    mixed(os.path.join(os.path.dirname(os.path.abspath(__file__)), "..", "examples"))
+    mixed()
