@@ -48,61 +48,6 @@ fn memory_is_measured_first() -> Result<(), Fail> {
     check(long[255] == 0 && long[256] == 7)
 }
 
-// A page is stored to, shared by a fork and stored to again: the first page goes to the disk and is copied from there.
-#[test]
-fn a_fork_shares_until_a_store() -> Result<(), Fail> {
-    let (mut table, mut segments, mut lookers) = ([0u16; 2], [0u16; 1], [0u16; 1]);
-    let (mut counts, mut used, mut places) = ([0u16; 1], [0u16; 1], [0u16; 1]);
-    let (mut frames, mut disk) = ([0u8; 256], [0u8; 256]);
-    let opened = open(
-        SIZES,
-        &mut table,
-        &mut segments,
-        &mut lookers,
-        &mut counts,
-        &mut used,
-        &mut places,
-        &mut frames,
-        &mut disk,
-    );
-    let Ok(mut manager) = opened else {
-        return Err(Fail::new("not opened"));
-    };
-    let calls = [
-        ([3, 0, 0, 0, 0], Answer::Done(0)),
-        ([8, 0, 0, 5, 7], Answer::Done(0)),
-        ([1, 0, 0, 0, 0], Answer::Done(1)),
-        ([8, 1, 0, 5, 9], Answer::Done(0)),
-        ([7, 1, 0, 5, 0], Answer::Done(9)),
-        ([7, 0, 0, 5, 0], Answer::Done(7)),
-        ([9, 0, 0, 0, 0], Answer::Done(2 * 65536 + 2)),
-        ([8, 0, 0, 5, 256], Answer::Fault),
-        ([7, usize::MAX, usize::MAX, 0, 0], Answer::Fault),
-        ([2, 0, 0, 0, 0], Answer::Done(0)),
-        ([1, 1, 0, 0, 0], Answer::Done(0)),
-    ];
-    for ([kind, process, page, third, fourth], answer) in calls {
-        let answered = call_by_numbers(
-            &mut manager,
-            &mut table,
-            &mut segments,
-            &mut lookers,
-            &mut counts,
-            &mut used,
-            &mut places,
-            &mut frames,
-            &mut disk,
-            kind,
-            process,
-            page,
-            third,
-            fourth,
-        );
-        check(answered == Ok(answer))?;
-    }
-    Ok(())
-}
-
 // Numbers in lent tables that are no entries, or name what is not there, read as absent, and counts that are wrong stop at 0.
 #[test]
 fn damaged_memory_is_answered() -> Result<(), Fail> {
@@ -123,38 +68,42 @@ fn damaged_memory_is_answered() -> Result<(), Fail> {
     let Ok(mut manager) = opened else {
         return Err(Fail::new("not opened"));
     };
-    for number in [65535u16, 4, 6, 8, 9, 14] {
-        table = [number; 2];
-        segments = [65535];
-        let answered = call(
-            &mut manager,
-            &mut table,
-            &mut segments,
-            &mut lookers,
-            &mut counts,
-            &mut used,
-            &mut places,
-            &mut frames,
-            &mut disk,
-            Call::Leave { process: 1 },
-        );
-        check(answered == Ok(Answer::Fault))?;
-        let dropped = call(
-            &mut manager,
-            &mut table,
-            &mut segments,
-            &mut lookers,
-            &mut counts,
-            &mut used,
-            &mut places,
-            &mut frames,
-            &mut disk,
-            Call::Drop {
-                process: 0,
-                page: 0,
-            },
-        );
-        check(dropped.is_ok() && counts[0] == 0 && places[0] == 0)?;
-    }
-    Ok(())
+    // no code, and a frame that the machine has not
+    table = [65535, 14];
+    segments = [65535];
+    let absent = call(
+        &mut manager,
+        &mut table,
+        &mut segments,
+        &mut lookers,
+        &mut counts,
+        &mut used,
+        &mut places,
+        &mut frames,
+        &mut disk,
+        Call::Drop {
+            process: 0,
+            page: 0,
+        },
+    );
+    check(absent == Ok(Answer::Fault))?;
+    // a frame whose count is 0 though an entry names it
+    table = [4, 14];
+    let dropped = call_by_numbers(
+        &mut manager,
+        &mut table,
+        &mut segments,
+        &mut lookers,
+        &mut counts,
+        &mut used,
+        &mut places,
+        &mut frames,
+        &mut disk,
+        4,
+        0,
+        0,
+        0,
+        0,
+    );
+    check(dropped == Ok(Answer::Done(0)) && counts[0] == 0 && table[0] == 0)
 }

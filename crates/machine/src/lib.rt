@@ -2,4 +2,6 @@
 pub mod machine;
 mod open;
 mod serve;
+#[cfg(test)]
+mod tests;
 pub mod trouble;
