@@ -42,7 +42,7 @@ impl Memory {
         ensures { IfOk result (λ n. n ≡ all_held (see self.now)) }
     {
         let mut labels = self.labels()?;
-        labels.sort();
+        labels.sort_unstable();
         Ok(distinct(labels.as_slice()) as u128 + self.held_segments() as u128)
     }
 

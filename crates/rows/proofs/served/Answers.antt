@@ -10,7 +10,7 @@ use Rattle.machine.specs.Owned.{model}
 use Rattle.rows.specs.Played.{lines_from, line}
 use Rattle.rows.proofs.Told.{one_line, no_line}
 use Rattle.rows.proofs.served.Goals as goal
-use Rattle.rows.proofs.served.Goals.{in-Some+in-ok-add-line, in-default}
+use Rattle.rows.proofs.served.Goals.{in-Some+in_ok-add_line, in_default}
 
 pub loop-i-preserved : goal.loop-i-preserved
 loop-i-preserved c =
@@ -22,8 +22,8 @@ loop-i-preserved c =
     let text = string_bytes c.loop-i.text in
     let old = c.loop-i.invariant in
     let one_less : suc left ≡ c.args.count - i = omega arith in
-    elim c.match-call-at.branch [
-      | in-Some+in-ok-add-line w ↦
+    elim c.match-call_at.branch [
+      | in-Some+in_ok-add_line w ↦
           let served = w.call-answer.ensures in
           let a = w.call-answer.result in
           let m' = w.call-answer.new.self in
@@ -31,18 +31,18 @@ loop-i-preserved c =
           let here : lines_from (serve z) row (model m) (suc left) i ≡ line i (answered a) ++ rest =
           one_line (serve z) row (model m) left i (model m') w.in-Some.call (answered a) (sym w.in-Some.ensures)
           (served.served ∙ ap (λ (y : Sizes). serve (seen_sizes y) (model m) (asked w.in-Some.call)) old.1) in (
-            ap (λ s. string_bytes s ++ lines_from (serve z) row (model c.match-call-at.machine) left (i + 1)) w.text_is
-                ∙ ap (λ (u : Machine). string_bytes w.add-line.new.text ++ lines_from (serve z) row (model u) left (i + 1)) w.machine-is
-                ∙ ap (λ bs. bs ++ rest) w.in-ok-add-line.ensures
+            ap (λ s. string_bytes s ++ lines_from (serve z) row (model c.match-call_at.machine) left (i + 1)) w.text-is
+                ∙ ap (λ (u : Machine). string_bytes w.add_line.new.text ++ lines_from (serve z) row (model u) left (i + 1)) w.machine-is
+                ∙ ap (λ bs. bs ++ rest) w.in_ok-add_line.ensures
                 ∙ append_assoc text (line i (answered a)) rest
                 ∙ ap (λ bs. text ++ bs) (sym here)
                 ∙ ap (λ k. text ++ lines_from (serve z) row (model m) k i) one_less
                 ∙ old.0,
             ap (λ (u : Machine). u.manager.sizes) w.machine-is ∙ served.same ∙ old.1,
           )
-      | in-default w ↦
-          let here = no_line (serve z) row (model m) left i (sym w.in-default.ensures) in (
-            ap (λ s. string_bytes s ++ lines_from (serve z) row (model c.match-call-at.machine) left (i + 1)) w.text_is
+      | in_default w ↦
+          let here = no_line (serve z) row (model m) left i (sym w.in_default.ensures) in (
+            ap (λ s. string_bytes s ++ lines_from (serve z) row (model c.match-call_at.machine) left (i + 1)) w.text-is
                 ∙ ap (λ (u : Machine). text ++ lines_from (serve z) row (model u) left (i + 1)) w.machine-is
                 ∙ ap (λ bs. text ++ bs) (sym here)
                 ∙ ap (λ k. text ++ lines_from (serve z) row (model m) k i) one_less

@@ -25,42 +25,42 @@ no_segment m p v frames (Frame f) n = refl
 no_segment m p v frames (Place d) n = refl
 no_segment m p v frames (Segment s) n = absurd (n s refl)
 
-pub returns-then-not-lacks-page : goal.returns-then-not-lacks-page
+pub returns-then-not-lacks_page : goal.returns-then-not-lacks_page
 unfolding view
-returns-then-not-lacks-page c used frames disk =
+returns-then-not-lacks_page c used frames disk =
     let g = c.args.manager in
     let m = lent c.args.table.now c.args.segments.now c.args.lookers.now c.args.frame_counts.now used c.args.place_counts.now frames disk in
-    refused g m (fold.look c.args.process c.args.page c.args.from-process c.args.from-page) Fault
-    (look_not_absent turn (seen_sizes g.sizes) (machine g m) c.args.process c.args.page c.args.from-process c.args.from-page
-    (sym c.lacks-page.ensures.value ∙ c.if-not-lacks-page.true))
+    refused g m (fold.look c.args.process c.args.page c.args.from_process c.args.from_page) Fault
+    (look_not_absent turn (seen_sizes g.sizes) (machine g m) c.args.process c.args.page c.args.from_process c.args.from_page
+    (sym c.lacks_page.ensures.value ∙ c.if-not-lacks_page.true))
 
 pub returns-then-not-has : goal.returns-then-not-has
 unfolding view
 returns-then-not-has c used frames disk =
     let g = c.args.manager in
     let m = lent c.args.table.now c.args.segments.now c.args.lookers.now c.args.frame_counts.now used c.args.place_counts.now frames disk in
-    refused g m (fold.look c.args.process c.args.page c.args.from-process c.args.from-page) Fault
-    (look_not_inside turn (seen_sizes g.sizes) (machine g m) c.args.process c.args.page c.args.from-process c.args.from-page
+    refused g m (fold.look c.args.process c.args.page c.args.from_process c.args.from_page) Fault
+    (look_not_inside turn (seen_sizes g.sizes) (machine g m) c.args.process c.args.page c.args.from_process c.args.from_page
     (sym c.has.ensures.value ∙ c.if-not-has.true))
 
-pub returns-in-default : goal.returns-in-default
+pub returns-in_default : goal.returns-in_default
 unfolding view
-returns-in-default c used frames disk =
+returns-in_default c used frames disk =
     let g = c.args.manager in
     let m = lent c.args.table.now c.args.segments.now c.args.lookers.now c.args.frame_counts.now used c.args.place_counts.now frames disk in
-    refused g m (fold.look c.args.process c.args.page c.args.from-process c.args.from-page) Fault
-    (look_goes turn (seen_sizes g.sizes) (machine g m) c.args.process c.args.page c.args.from-process c.args.from-page
-    (sym c.lacks-page.ensures.value ∙ c.if-not-lacks-page.false) (sym c.has.ensures.value ∙ c.if-not-has.false)
-    ∙ ap (look_at (machine g m) c.args.process c.args.page) (sym c.target-of.ensures.value) ∙ no_segment (machine g m) c.args.process c.args.page g.sizes.frames c.target-of.result c.in-default.not-Segment)
+    refused g m (fold.look c.args.process c.args.page c.args.from_process c.args.from_page) Fault
+    (look_goes turn (seen_sizes g.sizes) (machine g m) c.args.process c.args.page c.args.from_process c.args.from_page
+    (sym c.lacks_page.ensures.value ∙ c.if-not-lacks_page.false) (sym c.has.ensures.value ∙ c.if-not-has.false)
+    ∙ ap (look_at (machine g m) c.args.process c.args.page) (sym c.target_of.ensures.value) ∙ no_segment (machine g m) c.args.process c.args.page g.sizes.frames c.target_of.result c.in_default.not-Segment)
 
 pub look-requires : goal.look-requires
 look-requires c =
-    let p = c.lacks-page.ensures.process c.if-not-lacks-page.false in
+    let p = c.lacks_page.ensures.process c.if-not-lacks_page.false in
     record {
-      inside = c.lacks-page.ensures.page c.if-not-lacks-page.false;
+      inside = c.lacks_page.ensures.page c.if-not-lacks_page.false;
       long = omega (arith, row_within c.args.process c.args.manager.sizes.processes c.args.manager.sizes.pages p, c.requires.fits.table_length);
       few = few_limits c.args.manager.sizes c.requires.fits.range;
-      segment-within = c.in-Segment.ensures.within;
+      segment_within = c.in-Segment.ensures.within;
       lookers = c.requires.lookers;
     }
 
@@ -70,13 +70,13 @@ returns c used frames disk =
     let g = c.args.manager in
     let m = lent c.args.table.now c.args.segments.now c.args.lookers.now c.args.frame_counts.now used c.args.place_counts.now frames disk in
     let after = lent c.look.new.table c.args.segments.now c.look.new.lookers c.args.frame_counts.now used c.args.place_counts.now frames disk in
-    let p = c.lacks-page.ensures.process c.if-not-lacks-page.false in
+    let p = c.lacks_page.ensures.process c.if-not-lacks_page.false in
     let s = c.in-Segment.segment in
     let done = settled_machine g c.settle-manager.result m after (looked (meant g m) c.args.process c.args.page s) (c.settle-manager.ensures.machine c.look.new.lookers used frames disk)
     (c.look.ensures g.sizes.processes c.args.segments.now c.args.frame_counts.now used c.args.place_counts.now frames disk p) in
     record {
       same = c.settle-manager.ensures.same;
       serves = (λ i. (done i, fold.done s)) ∙ ap (look_at (machine g m) c.args.process c.args.page) c.in-Segment.ensures.value
-          ∙ sym (look_goes turn (seen_sizes g.sizes) (machine g m) c.args.process c.args.page c.args.from-process c.args.from-page
-          (sym c.lacks-page.ensures.value ∙ c.if-not-lacks-page.false) (sym c.has.ensures.value ∙ c.if-not-has.false));
+          ∙ sym (look_goes turn (seen_sizes g.sizes) (machine g m) c.args.process c.args.page c.args.from_process c.args.from_page
+          (sym c.lacks_page.ensures.value ∙ c.if-not-lacks_page.false) (sym c.has.ensures.value ∙ c.if-not-has.false));
     }

@@ -12,19 +12,19 @@ use Rattle.calls.proofs.Serving.{meant, refused, settled_machine}
 use Rattle.calls.proofs.Ways.{map_fault, map_goes}
 use Rattle.calls.proofs.entries.map.Goals as goal
 
-pub returns-then-not-lacks-page : goal.returns-then-not-lacks-page
+pub returns-then-not-lacks_page : goal.returns-then-not-lacks_page
 unfolding view
-returns-then-not-lacks-page c lookers used frames disk =
+returns-then-not-lacks_page c lookers used frames disk =
     let g = c.args.manager in
     let m = lent c.args.table.now c.args.segments.now lookers c.args.frame_counts.now used c.args.place_counts.now frames disk in
     refused g m (fold.map c.args.process c.args.page) Fault
-    (map_fault turn (seen_sizes g.sizes) (machine g m) c.args.process c.args.page (sym c.lacks-page.ensures.value ∙ c.if-not-lacks-page.true))
+    (map_fault turn (seen_sizes g.sizes) (machine g m) c.args.process c.args.page (sym c.lacks_page.ensures.value ∙ c.if-not-lacks_page.true))
 
 pub write-requires : goal.write-requires
 write-requires c =
-    let p = c.lacks-page.ensures.process c.if-not-lacks-page.false in
+    let p = c.lacks_page.ensures.process c.if-not-lacks_page.false in
     record {
-      inside = c.lacks-page.ensures.page c.if-not-lacks-page.false;
+      inside = c.lacks_page.ensures.page c.if-not-lacks_page.false;
       long = omega (arith, row_within c.args.process c.args.manager.sizes.processes c.args.manager.sizes.pages p, c.requires.table_length);
       small = omega arith;
     }
@@ -40,5 +40,5 @@ returns c lookers used frames disk =
     record {
       same = c.settle-manager.ensures.same;
       serves = (λ i. (done i, fold.done 0))
-          ∙ sym (map_goes turn (seen_sizes g.sizes) (machine g m) c.args.process c.args.page (sym c.lacks-page.ensures.value ∙ c.if-not-lacks-page.false));
+          ∙ sym (map_goes turn (seen_sizes g.sizes) (machine g m) c.args.process c.args.page (sym c.lacks_page.ensures.value ∙ c.if-not-lacks_page.false));
     }

@@ -27,7 +27,7 @@ returns c =
     let n6 = z.places * 256 in
     let m = lent c.args.table.now c.args.segments.now c.args.lookers.now c.args.frame_counts.now c.args.used.now c.args.place_counts.now c.args.frames.now c.args.disk.now in
     let left = lent c.serve-answer.new.table c.serve-answer.new.segments c.serve-answer.new.lookers c.serve-answer.new.frame_counts c.serve-answer.new.used c.serve-answer.new.place_counts c.serve-answer.new.frames c.serve-answer.new.disk in
-    let roomy = c.in-default.ensures.roomy in
+    let roomy = c.in_default.ensures.roomy in
     let kept = c.serve-answer.auto in
     let after = lent (put_mid 0 (n1 - 0) c.args.table.now c.serve-answer.new.table) (put_mid 0 (n2 - 0) c.args.segments.now c.serve-answer.new.segments) (put_mid 0 (n2 - 0) c.args.lookers.now c.serve-answer.new.lookers) (put_mid 0 (n3 - 0) c.args.frame_counts.now c.serve-answer.new.frame_counts) (put_mid 0 (n3 - 0) c.args.used.now c.serve-answer.new.used) (put_mid 0 (n4 - 0) c.args.place_counts.now c.serve-answer.new.place_counts) (put_mid 0 (n5 - 0) c.args.frames.now c.serve-answer.new.frames) (put_mid 0 (n6 - 0) c.args.disk.now c.serve-answer.new.disk) in
     let given : lent (take (n1 - 0) (drop 0 c.args.table.now)) (take (n2 - 0) (drop 0 c.args.segments.now)) (take (n2 - 0) (drop 0 c.args.lookers.now)) (take (n3 - 0) (drop 0 c.args.frame_counts.now)) (take (n3 - 0) (drop 0 c.args.used.now)) (take (n4 - 0) (drop 0 c.args.place_counts.now)) (take (n5 - 0) (drop 0 c.args.frames.now)) (take (n6 - 0) (drop 0 c.args.disk.now)) ≡ cut_lent z m =
@@ -40,4 +40,4 @@ returns c =
     let r = c.serve-answer.result in
     let served : Served g (cut_lent z m) a r (cut_lent z after) =
     subst (λ (x : Lent). Served g (cut_lent z m) a r x) cut (subst (λ (x : Lent). Served g x a r left) given c.serve-answer.ensures) in
-    called_answered (entry_refusal z m) g m a r.1 r.0 after (sym c.admit.ensures.value ∙ c.in-default.is) served rest
+    called_answered (entry_refusal z m) g m a r.1 r.0 after (sym c.admit.ensures.value ∙ c.in_default.is) served rest

@@ -12,11 +12,11 @@ pub loop-page-init : goal.loop-page-init
 unfolding dropped_row
 loop-page-init c processes used frames disk h = refl
 
-pub drop-page-requires : goal.drop-page-requires
-drop-page-requires c =
+pub drop_page-requires : goal.drop_page-requires
+drop_page-requires c =
     record {
       inside = omega arith;
-      long = omega (arith, row_within c.args.process c.args.manager.sizes.processes c.args.manager.sizes.pages c.requires.process-within, c.requires.fits.table_length);
+      long = omega (arith, row_within c.args.process c.args.manager.sizes.processes c.args.manager.sizes.pages c.requires.process_within, c.requires.fits.table_length);
       segments = omega (arith, c.requires.fits.segments_length);
       lookers = omega (arith, c.requires.lookers);
       frame_counts = omega (arith, c.requires.fits.frame_counts_length);
@@ -28,7 +28,7 @@ unfolding dropped_row
 loop-page-preserved c processes used frames disk h =
     let g = c.args.manager in
     let before = view (limits_of g.sizes) g.sizes.pages processes (lent c.args.table.now c.args.segments.now c.args.lookers.now c.args.frame_counts.now used c.args.place_counts.now frames disk) in
-    c.drop-page.ensures processes used frames disk h
+    c.drop_page.ensures processes used frames disk h
     ∙ ap (λ (s : State). dropped s c.args.process c.loop-page.page) (c.loop-page.invariant processes used frames disk h)
     ∙ ap (dropped_row before c.args.process) (sym (add-one c.loop-page.page))
 
@@ -36,4 +36,4 @@ pub returns : goal.returns
 returns c used frames disk =
     let g = c.args.manager in
     let before = meant g (lent c.args.table.now c.args.segments.now c.args.lookers.now c.args.frame_counts.now used c.args.place_counts.now frames disk) in
-    c.loop-page.invariant g.sizes.processes used frames disk c.requires.process-within ∙ ap (dropped_row before c.args.process) (let e : c.loop-page.page ≡ g.sizes.pages = omega arith in e)
+    c.loop-page.invariant g.sizes.processes used frames disk c.requires.process_within ∙ ap (dropped_row before c.args.process) (let e : c.loop-page.page ≡ g.sizes.pages = omega arith in e)

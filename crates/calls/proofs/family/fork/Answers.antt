@@ -16,30 +16,30 @@ use Rattle.calls.proofs.Serving.{few_limits, meant, no_some, refused, settled_ma
 use Rattle.calls.proofs.Ways.{fork_fault, fork_goes}
 use Rattle.calls.proofs.family.fork.Goals as goal
 
-pub returns-then-not-is-alive : goal.returns-then-not-is-alive
+pub returns-then-not-is_alive : goal.returns-then-not-is_alive
 unfolding view
-returns-then-not-is-alive c used frames disk =
+returns-then-not-is_alive c used frames disk =
     let g = c.args.manager in
     let m = lent c.args.table.now c.args.segments.now c.args.lookers.now c.args.frame_counts.now used c.args.place_counts.now frames disk in
-    refused g m (fold.fork c.args.process) Fault (fork_fault turn (seen_sizes g.sizes) (machine g m) c.args.process (sym c.is-alive.ensures.value ∙ c.if-not-is-alive.true))
+    refused g m (fold.fork c.args.process) Fault (fork_fault turn (seen_sizes g.sizes) (machine g m) c.args.process (sym c.is_alive.ensures.value ∙ c.if-not-is_alive.true))
 
-pub returns-in-default : goal.returns-in-default
+pub returns-in_default : goal.returns-in_default
 unfolding view
-returns-in-default c used frames disk =
+returns-in_default c used frames disk =
     let g = c.args.manager in
     let z = seen_sizes g.sizes in
     let m = lent c.args.table.now c.args.segments.now c.args.lookers.now c.args.frame_counts.now used c.args.place_counts.now frames disk in
     refused g m (fold.fork c.args.process) Full
-    (fork_goes turn z (machine g m) c.args.process (sym c.is-alive.ensures.value ∙ c.if-not-is-alive.false)
-    ∙ ap (fork_to z (machine g m) c.args.process) (sym c.lowest_absent.ensures.value ∙ no_some c.lowest_absent.result c.in-default.not-Some))
+    (fork_goes turn z (machine g m) c.args.process (sym c.is_alive.ensures.value ∙ c.if-not-is_alive.false)
+    ∙ ap (fork_to z (machine g m) c.args.process) (sym c.lowest_absent.ensures.value ∙ no_some c.lowest_absent.result c.in_default.not-Some))
 
-pub copy-row-requires : goal.copy-row-requires
-copy-row-requires c =
+pub copy_row-requires : goal.copy_row-requires
+copy_row-requires c =
     let n = c.args.manager.sizes.processes in
     let w = c.args.manager.sizes.pages in
     record {
-      parent-long = omega (arith, row_within c.args.process n w (c.is-alive.ensures.within c.if-not-is-alive.false), c.requires.fits.table_length);
-      child-long = omega (arith, row_within c.in-Some.child n w c.in-Some.ensures.within, c.requires.fits.table_length);
+      parent_long = omega (arith, row_within c.args.process n w (c.is_alive.ensures.within c.if-not-is_alive.false), c.requires.fits.table_length);
+      child_long = omega (arith, row_within c.in-Some.child n w c.in-Some.ensures.within, c.requires.fits.table_length);
       few = few_limits c.args.manager.sizes c.requires.fits.range;
     }
 
@@ -51,15 +51,15 @@ returns c used frames disk =
     let p = c.args.process in
     let child = c.in-Some.child in
     let m = lent c.args.table.now c.args.segments.now c.args.lookers.now c.args.frame_counts.now used c.args.place_counts.now frames disk in
-    let after = lent c.copy-row.new.table c.args.segments.now c.raise-row.new.lookers c.raise-row.new.frame_counts used c.raise-row.new.place_counts frames disk in
-    let within = c.is-alive.ensures.within c.if-not-is-alive.false in
-    let copied = c.copy-row.ensures g.sizes.processes within in
-    let raised = c.raise-row.ensures c.args.segments.now used frames disk in
+    let after = lent c.copy_row.new.table c.args.segments.now c.raise_row.new.lookers c.raise_row.new.frame_counts used c.raise_row.new.place_counts frames disk in
+    let within = c.is_alive.ensures.within c.if-not-is_alive.false in
+    let copied = c.copy_row.ensures g.sizes.processes within in
+    let raised = c.raise_row.ensures c.args.segments.now used frames disk in
     let meaning : meant g after ≡ forked (meant g m) p child g.sizes.pages = λ i. with_rows (raised i) (copied i) in
-    let settled = settled_machine g c.settle-manager.result m after (forked (meant g m) p child g.sizes.pages) (c.settle-manager.ensures.machine c.raise-row.new.lookers used frames disk) meaning in
-    let born = with_alive_machine c.settle-manager.result c.with-alive-manager.result after child true c.with-alive-manager.ensures (subst (λ (s : Sizes). child < s.processes) (sym c.settle-manager.ensures.same) c.in-Some.ensures.within) in
+    let settled = settled_machine g c.settle-manager.result m after (forked (meant g m) p child g.sizes.pages) (c.settle-manager.ensures.machine c.raise_row.new.lookers used frames disk) meaning in
+    let born = with_alive_machine c.settle-manager.result c.with_alive-manager.result after child true c.with_alive-manager.ensures (subst (λ (s : Sizes). child < s.processes) (sym c.settle-manager.ensures.same) c.in-Some.ensures.within) in
     record {
-      same = ap (λ (r : Manager). r.sizes) c.with-alive-manager.ensures ∙ c.settle-manager.ensures.same;
+      same = ap (λ (r : Manager). r.sizes) c.with_alive-manager.ensures ∙ c.settle-manager.ensures.same;
       serves = (λ i. (born i, fold.done child)) ∙ (λ i. (with_alive (settled i) child true, fold.done child))
-          ∙ ap (fork_to z (machine g m) p) (sym c.in-Some.is ∙ c.lowest_absent.ensures.value) ∙ sym (fork_goes turn z (machine g m) p (sym c.is-alive.ensures.value ∙ c.if-not-is-alive.false));
+          ∙ ap (fork_to z (machine g m) p) (sym c.in-Some.is ∙ c.lowest_absent.ensures.value) ∙ sym (fork_goes turn z (machine g m) p (sym c.is_alive.ensures.value ∙ c.if-not-is_alive.false));
     }

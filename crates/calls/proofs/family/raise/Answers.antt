@@ -22,8 +22,8 @@ returns-in-Frame c pages processes table segments used frames disk =
     let fs = c.args.frame_counts.now in
     let ps = c.args.place_counts.now in
     let m = view z pages processes (lent table segments c.args.lookers.now fs used ps frames disk) in
-    ap (λ cs. with_counts m (cs ++ ps)) c.count-up.ensures
-    ∙ ap (with_counts m) (up_frame fs ps z.frames c.requires.frame_counts c.in-Frame.frame (subst (Within z) c.in-Frame.is c.requires.target-within))
+    ap (λ cs. with_counts m (cs ++ ps)) c.count_up.ensures
+    ∙ ap (with_counts m) (up_frame fs ps z.frames c.requires.frame_counts c.in-Frame.frame (subst (Within z) c.in-Frame.is c.requires.target_within))
     ∙ ap (λ (t : Target). raised m (held_of z.frames t)) (sym c.in-Frame.is)
 
 pub returns-in-Place : goal.returns-in-Place
@@ -33,7 +33,7 @@ returns-in-Place c pages processes table segments used frames disk =
     let fs = c.args.frame_counts.now in
     let ps = c.args.place_counts.now in
     let m = view z pages processes (lent table segments c.args.lookers.now fs used ps frames disk) in
-    ap (λ cs. with_counts m (fs ++ cs)) c.count-up-in-Place.ensures ∙ ap (with_counts m) (up_place fs ps z.frames c.requires.frame_counts c.in-Place.place)
+    ap (λ cs. with_counts m (fs ++ cs)) c.count_up-in-Place.ensures ∙ ap (with_counts m) (up_place fs ps z.frames c.requires.frame_counts c.in-Place.place)
     ∙ ap (λ (t : Target). raised m (held_of z.frames t)) (sym c.in-Place.is)
 
 pub returns-in-Segment : goal.returns-in-Segment
@@ -41,4 +41,4 @@ unfolding view
 returns-in-Segment c pages processes table segments used frames disk =
     let z = c.args.limits in
     let m = view z pages processes (lent table segments c.args.lookers.now c.args.frame_counts.now used c.args.place_counts.now frames disk) in
-    ap (with_lookers m) c.count-up-in-Segment.ensures ∙ ap (λ (t : Target). raised m (held_of z.frames t)) (sym c.in-Segment.is)
+    ap (with_lookers m) c.count_up-in-Segment.ensures ∙ ap (λ (t : Target). raised m (held_of z.frames t)) (sym c.in-Segment.is)

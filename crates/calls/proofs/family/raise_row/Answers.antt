@@ -18,7 +18,7 @@ loop-page-preserved c segments used frames disk =
     let before = meant g (lent c.args.table.now segments c.args.lookers.now c.args.frame_counts.now used c.args.place_counts.now frames disk) in
     let far = c.loop-page.invariant segments used frames disk in
     c.raise.ensures g.sizes.pages g.sizes.processes c.args.table.now segments used frames disk
-    ∙ (λ i. raised (far i) (c.target-of-target.ensures.value i))
+    ∙ (λ i. raised (far i) (c.target_of-target.ensures.value i))
     ∙ ap (raised_row before c.args.process) (sym (add-one c.loop-page.page))
 
 pub returns : goal.returns

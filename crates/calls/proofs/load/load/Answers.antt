@@ -48,18 +48,18 @@ returns-in-Some c lookers =
     record {
       same = ap (λ (r : Manager). r.sizes) c.load_hit.ensures.same;
       serves = c.load_hit.ensures.value c.args.table.now c.args.segments.now lookers c.args.frame_counts.now c.args.place_counts.now c.args.disk.now
-          ∙ ap (load_by turn (machine g m) p v o) (sym c.in-Some.is ∙ c.slot-of.ensures.value)
+          ∙ ap (load_by turn (machine g m) p v o) (sym c.in-Some.is ∙ c.slot_of.ensures.value)
           ∙ sym (load_goes turn z (machine g m) p v o (reaches turn z (machine g m) p v o (sym c.has.ensures.value ∙ c.if-not-has.false) (lt-ltb o 256 (omega arith))));
     }
 
-pub load-walked-requires : goal.load-walked-requires
-load-walked-requires c =
+pub load_walked-requires : goal.load_walked-requires
+load_walked-requires c =
     record {
       range = c.requires.range;
       exact = c.requires.exact;
-      process-within = c.has.ensures.process c.if-not-has.false;
-      page-within = c.has.ensures.page c.if-not-has.false;
-      offset-within = omega arith;
+      process_within = c.has.ensures.process c.if-not-has.false;
+      page_within = c.has.ensures.page c.if-not-has.false;
+      offset_within = omega arith;
     }
 
 pub returns-in-None : goal.returns-in-None
@@ -74,6 +74,6 @@ returns-in-None c lookers =
     record {
       same = c.load_walked.ensures.same;
       serves = c.load_walked.ensures.value lookers
-          ∙ ap (load_by turn (machine g m) p v o) (sym c.in-None.is ∙ c.slot-of.ensures.value)
+          ∙ ap (load_by turn (machine g m) p v o) (sym c.in-None.is ∙ c.slot_of.ensures.value)
           ∙ sym (load_goes turn z (machine g m) p v o (reaches turn z (machine g m) p v o (sym c.has.ensures.value ∙ c.if-not-has.false) (lt-ltb o 256 (omega arith))));
     }

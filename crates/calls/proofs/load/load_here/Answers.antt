@@ -22,7 +22,7 @@ returns c =
           let m = lent table segments lookers counts c.args.used.now places c.args.frames.now disk in
           let after = lent table segments lookers counts c.mark.new.used places c.args.frames.now disk in
           let w = (machine g m).whole in
-          let byte = c.from.ensures ∙ c.load-byte.ensures g.sizes.frames c.requires.frame-within ∙ frame_byte g.sizes.frames g.sizes.places c.args.frames.now disk s.frame c.args.offset c.requires.frame-within in
+          let byte = c.from.ensures ∙ c.load-byte.ensures g.sizes.frames c.requires.frame_within ∙ frame_byte g.sizes.frames g.sizes.places c.args.frames.now disk s.frame c.args.offset c.requires.frame_within in
           (λ i. (c.remember.ensures.machine after i, fold.done (byte i)))
           ∙ (λ i. (with_whole (machine g m) (remembered (with_state w (with_used w.state (marked i))) s.process s.page s.frame s.free), fold.done (byte 1)));
     }

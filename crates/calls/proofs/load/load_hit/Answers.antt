@@ -20,6 +20,6 @@ returns c =
       value = λ table segments lookers counts places disk.
           let m = lent table segments lookers counts c.args.used.now places c.args.frames.now disk in
           let w = (machine g m).whole in
-          let byte = c.from.ensures ∙ c.load-byte.ensures g.sizes.frames c.requires.frame-within ∙ frame_byte g.sizes.frames g.sizes.places c.args.frames.now disk s.frame c.args.offset c.requires.frame-within in
+          let byte = c.from.ensures ∙ c.load-byte.ensures g.sizes.frames c.requires.frame_within ∙ frame_byte g.sizes.frames g.sizes.places c.args.frames.now disk s.frame c.args.offset c.requires.frame_within in
           λ i. (with_whole (machine g m) (with_state w (with_used w.state (marked i))), fold.done (byte i));
     }

@@ -14,12 +14,12 @@ use Rattle.calls.proofs.Serving.{few_limits, refused}
 use Rattle.calls.proofs.Ways.{make_fault, make_goes}
 use Rattle.calls.proofs.segment.make_segment.Goals as goal
 
-pub returns-then-not-lacks-page : goal.returns-then-not-lacks-page
+pub returns-then-not-lacks_page : goal.returns-then-not-lacks_page
 unfolding view
-returns-then-not-lacks-page c =
+returns-then-not-lacks_page c =
     let g = c.args.manager in
     let m = lent c.args.table.now c.args.segments.now c.args.lookers.now c.args.frame_counts.now c.args.used.now c.args.place_counts.now c.args.frames.now c.args.disk.now in
-    refused g m (fold.make c.args.process c.args.page) Fault (make_fault turn (seen_sizes g.sizes) (machine g m) c.args.process c.args.page (sym c.lacks-page.ensures.value ∙ c.if-not-lacks-page.true))
+    refused g m (fold.make c.args.process c.args.page) Fault (make_fault turn (seen_sizes g.sizes) (machine g m) c.args.process c.args.page (sym c.lacks_page.ensures.value ∙ c.if-not-lacks_page.true))
 
 pub make-made-requires : goal.make-made-requires
 make-made-requires c =
@@ -28,8 +28,8 @@ make-made-requires c =
       lookers = c.requires.lookers;
       few = few_limits c.args.manager.sizes c.requires.range;
       some = omega (arith, c.requires.range);
-      process-within = c.lacks-page.ensures.process c.if-not-lacks-page.false;
-      page-within = c.lacks-page.ensures.page c.if-not-lacks-page.false;
+      process_within = c.lacks_page.ensures.process c.if-not-lacks_page.false;
+      page_within = c.lacks_page.ensures.page c.if-not-lacks_page.false;
     }
 
 pub returns-in-Some : goal.returns-in-Some
@@ -44,7 +44,7 @@ returns-in-Some c =
     record {
       same = refl;
       serves = ap (made (machine g m) w) (sym c.in-Some.is) ∙ (λ i. made (machine g m) (e i).0 (e i).1)
-          ∙ sym (make_goes turn z (machine g m) c.args.process c.args.page (sym c.lacks-page.ensures.value ∙ c.if-not-lacks-page.false));
+          ∙ sym (make_goes turn z (machine g m) c.args.process c.args.page (sym c.lacks_page.ensures.value ∙ c.if-not-lacks_page.false));
     }
 
 pub returns-in-None : goal.returns-in-None
@@ -59,5 +59,5 @@ returns-in-None c =
     record {
       same = refl;
       serves = ap (made (machine g m) w) (sym c.in-None.is) ∙ (λ i. made (machine g m) (e i).0 (e i).1)
-          ∙ sym (make_goes turn z (machine g m) c.args.process c.args.page (sym c.lacks-page.ensures.value ∙ c.if-not-lacks-page.false));
+          ∙ sym (make_goes turn z (machine g m) c.args.process c.args.page (sym c.lacks_page.ensures.value ∙ c.if-not-lacks_page.false));
     }

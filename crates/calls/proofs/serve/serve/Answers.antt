@@ -32,15 +32,15 @@ pub returns-in-Drop : goal.returns-in-Drop
 unfolding view
 returns-in-Drop c =
     of_call c.args.manager (lent c.args.table.now c.args.segments.now c.args.lookers.now c.args.frame_counts.now c.args.used.now c.args.place_counts.now c.args.frames.now c.args.disk.now)
-    c.drop-page.result (lent c.drop-page.new.table c.drop-page.new.segments c.drop-page.new.lookers c.drop-page.new.frame_counts c.args.used.now c.drop-page.new.place_counts c.args.frames.now c.args.disk.now)
-    (fold.drop c.in-Drop.process c.in-Drop.page) (asked c.args.call) (ap asked c.in-Drop.is) (c.drop-page.ensures c.args.used.now c.args.frames.now c.args.disk.now)
+    c.drop_page.result (lent c.drop_page.new.table c.drop_page.new.segments c.drop_page.new.lookers c.drop_page.new.frame_counts c.args.used.now c.drop_page.new.place_counts c.args.frames.now c.args.disk.now)
+    (fold.drop c.in-Drop.process c.in-Drop.page) (asked c.args.call) (ap asked c.in-Drop.is) (c.drop_page.ensures c.args.used.now c.args.frames.now c.args.disk.now)
 
 pub returns-in-Look : goal.returns-in-Look
 unfolding view
 returns-in-Look c =
     of_call c.args.manager (lent c.args.table.now c.args.segments.now c.args.lookers.now c.args.frame_counts.now c.args.used.now c.args.place_counts.now c.args.frames.now c.args.disk.now)
     c.look.result (lent c.look.new.table c.args.segments.now c.look.new.lookers c.args.frame_counts.now c.args.used.now c.args.place_counts.now c.args.frames.now c.args.disk.now)
-    (fold.look c.in-Look.process c.in-Look.page c.in-Look.from-process c.in-Look.from-page) (asked c.args.call) (ap asked c.in-Look.is) (c.look.ensures c.args.used.now c.args.frames.now c.args.disk.now)
+    (fold.look c.in-Look.process c.in-Look.page c.in-Look.from_process c.in-Look.from_page) (asked c.args.call) (ap asked c.in-Look.is) (c.look.ensures c.args.used.now c.args.frames.now c.args.disk.now)
 
 pub returns-in-Load : goal.returns-in-Load
 unfolding view

@@ -63,18 +63,18 @@ returns-in-Some c lookers =
     record {
       same = ap (λ (r : Manager). r.sizes) c.store_hit.ensures.same;
       serves = c.store_hit.ensures.value c.args.table.now c.args.segments.now lookers c.args.frame_counts.now c.args.place_counts.now c.args.disk.now
-          ∙ ap (free_store turn (machine g m) p v o b) (sym c.in-Some.is ∙ c.free-slot-of.ensures.value) ∙ sym (store_by_free turn (machine g m) p v o b (slot_found (machine g m) p v))
+          ∙ ap (free_store turn (machine g m) p v o b) (sym c.in-Some.is ∙ c.free_slot_of.ensures.value) ∙ sym (store_by_free turn (machine g m) p v o b (slot_found (machine g m) p v))
           ∙ sym (store_goes turn z (machine g m) p v o b (reaches turn z (machine g m) p v o (sym c.has.ensures.value ∙ c.if-not-has.false) (lt-ltb o 256 (omega arith))));
     }
 
-pub store-walked-requires : goal.store-walked-requires
-store-walked-requires c =
+pub store_walked-requires : goal.store_walked-requires
+store_walked-requires c =
     record {
       range = c.requires.range;
       exact = c.requires.exact;
-      process-within = c.has.ensures.process c.if-not-has.false;
-      page-within = c.has.ensures.page c.if-not-has.false;
-      offset-within = omega arith;
+      process_within = c.has.ensures.process c.if-not-has.false;
+      page_within = c.has.ensures.page c.if-not-has.false;
+      offset_within = omega arith;
     }
 
 pub returns-in-None : goal.returns-in-None
@@ -90,6 +90,6 @@ returns-in-None c lookers =
     record {
       same = c.store_walked.ensures.same;
       serves = c.store_walked.ensures.value lookers
-          ∙ ap (free_store turn (machine g m) p v o b) (sym c.in-None.is ∙ c.free-slot-of.ensures.value) ∙ sym (store_by_free turn (machine g m) p v o b (slot_found (machine g m) p v))
+          ∙ ap (free_store turn (machine g m) p v o b) (sym c.in-None.is ∙ c.free_slot_of.ensures.value) ∙ sym (store_by_free turn (machine g m) p v o b (slot_found (machine g m) p v))
           ∙ sym (store_goes turn z (machine g m) p v o b (reaches turn z (machine g m) p v o (sym c.has.ensures.value ∙ c.if-not-has.false) (lt-ltb o 256 (omega arith))));
     }

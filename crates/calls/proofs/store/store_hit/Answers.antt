@@ -20,6 +20,6 @@ returns c =
       value = λ table segments lookers counts places disk.
           let m = lent table segments lookers counts c.args.used.now places c.args.frames.now disk in
           let w = (machine g m).whole in
-          let written = frame_stored g.sizes.frames g.sizes.places c.args.frames.now c.store.new.memory disk s.frame c.args.offset c.args.byte c.requires.frame-within (c.store.ensures g.sizes.frames) in
+          let written = frame_stored g.sizes.frames g.sizes.places c.args.frames.now c.store.new.memory disk s.frame c.args.offset c.args.byte c.requires.frame_within (c.store.ensures g.sizes.frames) in
           λ i. (with_whole (machine g m) (with_state w (with_used (with_pages w.state (written i)) (marked i))), fold.done 0);
     }

@@ -15,16 +15,16 @@ store-written-requires c =
       exact = c.requires.exact;
       few = few_limits c.args.manager.sizes c.requires.range;
       some = omega (arith, c.requires.range);
-      process-within = c.requires.process-within;
-      page-within = c.requires.page-within;
-      offset-within = c.requires.offset-within;
+      process_within = c.requires.process_within;
+      page_within = c.requires.page_within;
+      offset_within = c.requires.offset_within;
     }
 
 pub wrote-requires : goal.wrote-requires
 wrote-requires c =
     record {
       used = omega (arith, c.requires.exact.used);
-      frame-within = subst (λ (o : Option Written). IfSome o (λ (t : Written). t.frame < c.args.manager.sizes.frames)) c.in-Some.is c.store-written.ensures.within;
+      frame_within = subst (λ (o : Option Written). IfSome o (λ (t : Written). t.frame < c.args.manager.sizes.frames)) c.in-Some.is c.store-written.ensures.within;
     }
 
 pub returns-in-Some : goal.returns-in-Some

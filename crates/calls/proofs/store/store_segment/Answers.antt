@@ -9,36 +9,36 @@ use Rattle.calls.specs.Memory.{limits_of, machine}
 use Rattle.calls.proofs.Serving.{few_limits}
 use Rattle.calls.proofs.store.store_segment.Goals as goal
 
-pub store-to-segment-reached-requires : goal.store-to-segment-reached-requires
-store-to-segment-reached-requires c =
+pub store_to_segment-reached-requires : goal.store_to_segment-reached-requires
+store_to_segment-reached-requires c =
     record {
       exact = c.requires.exact;
       few = few_limits c.args.manager.sizes c.requires.range;
       some = omega (arith, c.requires.range);
-      process-within = c.requires.process-within;
-      page-within = c.requires.page-within;
-      offset-within = c.requires.offset-within;
+      process_within = c.requires.process_within;
+      page_within = c.requires.page_within;
+      offset_within = c.requires.offset_within;
     }
 
 pub wrote-requires : goal.wrote-requires
 wrote-requires c =
     record {
       used = omega (arith, c.requires.exact.used);
-      frame-within = subst (λ (o : Option Taken). IfSome o (λ (t : Taken). t.frame < c.args.manager.sizes.frames)) c.in-Some.is c.store-to-segment-reached.ensures.within;
+      frame_within = subst (λ (o : Option Taken). IfSome o (λ (t : Taken). t.frame < c.args.manager.sizes.frames)) c.in-Some.is c.store_to_segment-reached.ensures.within;
     }
 
 pub returns-in-Some : goal.returns-in-Some
 unfolding view
 returns-in-Some c =
     let g = c.args.manager in
-    let after = c.store-to-segment-reached.new in
+    let after = c.store_to_segment-reached.new in
     record {
       same = c.wrote.ensures.same;
       value = λ lookers.
           let m = lent c.args.table.now c.args.segments.now lookers c.args.frame_counts.now c.args.used.now c.args.place_counts.now c.args.frames.now c.args.disk.now in
           let left = lent after.table after.segments lookers after.frame_counts after.used after.place_counts after.frames after.disk in
-          let w = whole (limits_of g.sizes) g.sizes.pages g.sizes.processes c.store-to-segment-reached.result.0 left in
-          let e = c.store-to-segment-reached.ensures.value lookers in
+          let w = whole (limits_of g.sizes) g.sizes.pages g.sizes.processes c.store_to_segment-reached.result.0 left in
+          let e = c.store_to_segment-reached.ensures.value lookers in
           c.wrote.ensures.value after.table after.segments lookers after.frame_counts after.place_counts after.frames after.disk
           ∙ ap (segment_stored (machine g m) c.args.process c.args.page w) (sym c.in-Some.is) ∙ (λ i. segment_stored (machine g m) c.args.process c.args.page (e i).0 (e i).1);
     }
@@ -47,13 +47,13 @@ pub returns-in-None : goal.returns-in-None
 unfolding view
 returns-in-None c =
     let g = c.args.manager in
-    let after = c.store-to-segment-reached.new in
+    let after = c.store_to_segment-reached.new in
     record {
       same = refl;
       value = λ lookers.
           let m = lent c.args.table.now c.args.segments.now lookers c.args.frame_counts.now c.args.used.now c.args.place_counts.now c.args.frames.now c.args.disk.now in
           let left = lent after.table after.segments lookers after.frame_counts after.used after.place_counts after.frames after.disk in
-          let w = whole (limits_of g.sizes) g.sizes.pages g.sizes.processes c.store-to-segment-reached.result.0 left in
-          let e = c.store-to-segment-reached.ensures.value lookers in
+          let w = whole (limits_of g.sizes) g.sizes.pages g.sizes.processes c.store_to_segment-reached.result.0 left in
+          let e = c.store_to_segment-reached.ensures.value lookers in
           ap (segment_stored (machine g m) c.args.process c.args.page w) (sym c.in-None.is) ∙ (λ i. segment_stored (machine g m) c.args.process c.args.page (e i).0 (e i).1);
     }

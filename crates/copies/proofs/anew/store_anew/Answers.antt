@@ -12,13 +12,13 @@ use Rattle.copies.proofs.anew.store_anew.Goals as goal
 pub fill-transfers-requires : goal.fill-transfers-requires
 fill-transfers-requires c =
     record {
-      inside = c.requires.page-within;
-      long = omega (arith, row_within c.args.process c.args.processes c.args.pages c.requires.process-within, c.requires.table);
+      inside = c.requires.page_within;
+      long = omega (arith, row_within c.args.process c.args.processes c.args.pages c.requires.process_within, c.requires.table);
       few = c.requires.few;
       named = c.requires.named;
-      target-within = c.requires.target-within;
-      frame-within = c.requires.frame-within;
-      offset-within = c.requires.offset-within;
+      target_within = c.requires.target_within;
+      frame_within = c.requires.frame_within;
+      offset_within = c.requires.offset_within;
       frame_counts = c.requires.frame_counts;
       place_counts = c.requires.place_counts;
       frames = c.requires.frames;
@@ -34,9 +34,9 @@ returns c lookers used =
     let registers : Registers = record { hand = r.hand; transfers = c.fill-transfers.result; lookaside = c.purge-lookaside.result } in
     let transfers : Transfers = record { reads = read_by z.frames h r.transfers.reads; writes = r.transfers.writes } in
     let counted : c.fill-transfers.result ≡ transfers =
-    λ i. record { reads = c.fill-transfers.ensures.reads c.args.processes c.requires.process-within i; writes = c.fill-transfers.ensures.writes i } in
+    λ i. record { reads = c.fill-transfers.ensures.reads c.args.processes c.requires.process_within i; writes = c.fill-transfers.ensures.writes i } in
     let before = lent c.args.table.now c.args.segments.now lookers c.args.frame_counts.now used c.args.place_counts.now c.args.frames.now c.args.disk.now in
     let after = lent c.fill-transfers.new.table c.args.segments.now lookers c.fill-transfers.new.frame_counts used c.fill-transfers.new.place_counts c.fill-transfers.new.frames c.args.disk.now in
     settled_whole z c.args.pages c.args.processes after registers
     (filled_by (view z c.args.pages c.args.processes before) c.args.process c.args.page c.args.frame c.args.offset c.args.byte h) r.lookaside.slots transfers
-    (c.fill-transfers.ensures.state c.args.processes c.args.segments.now lookers used c.requires.process-within) counted c.purge-lookaside.ensures
+    (c.fill-transfers.ensures.state c.args.processes c.args.segments.now lookers used c.requires.process_within) counted c.purge-lookaside.ensures

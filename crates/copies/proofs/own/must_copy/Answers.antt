@@ -10,7 +10,7 @@ returns-in-Frame c =
     let z = c.args.limits in
     let fs = c.args.frame_counts.now in
     let ps = c.args.place_counts.now in
-    ap (ltb 1) (sym (at_frame fs ps z.frames c.requires.frame_counts c.in-Frame.frame 0 (subst (Within z) c.in-Frame.is c.requires.target-within)))
+    ap (ltb 1) (sym (at_frame fs ps z.frames c.requires.frame_counts c.in-Frame.frame 0 (subst (Within z) c.in-Frame.is c.requires.target_within)))
     ∙ ap (λ (t : Target). must_copy (fs ++ ps) (held_of z.frames t)) (sym c.in-Frame.is)
 
 pub returns-in-Place : goal.returns-in-Place

@@ -5,26 +5,26 @@ use Rattle.copies.proofs.own.store_alone.Goals as goal
 
 pub read-requires : goal.read-requires
 read-requires c =
-    record { inside = c.requires.page-within; long = omega (arith, row_within c.args.process c.args.processes c.args.pages c.requires.process-within, c.requires.exact.table) }
+    record { inside = c.requires.page_within; long = omega (arith, row_within c.args.process c.args.processes c.args.pages c.requires.process_within, c.requires.exact.table) }
 
-pub store-in-place-requires : goal.store-in-place-requires
-store-in-place-requires c =
+pub store_in_place-requires : goal.store_in_place-requires
+store_in_place-requires c =
     record {
-      inside = c.requires.page-within;
-      long = omega (arith, row_within c.args.process c.args.processes c.args.pages c.requires.process-within, c.requires.exact.table);
+      inside = c.requires.page_within;
+      long = omega (arith, row_within c.args.process c.args.processes c.args.pages c.requires.process_within, c.requires.exact.table);
       few = c.requires.few;
-      frame-within = subst (Within c.args.limits) c.in-Frame.is c.read.ensures.within;
-      offset-within = c.requires.offset-within;
+      frame_within = subst (Within c.args.limits) c.in-Frame.is c.read.ensures.within;
+      offset_within = c.requires.offset_within;
       frames = c.requires.exact.frames;
     }
 
-pub store-in-place-requires-in-Place : goal.store-in-place-requires-in-Place
-store-in-place-requires-in-Place c =
+pub store_in_place-requires-in-Place : goal.store_in_place-requires-in-Place
+store_in_place-requires-in-Place c =
     record {
-      inside = c.requires.page-within;
-      long = omega (arith, row_within c.args.process c.args.processes c.args.pages c.requires.process-within, c.requires.exact.table);
+      inside = c.requires.page_within;
+      long = omega (arith, row_within c.args.process c.args.processes c.args.pages c.requires.process_within, c.requires.exact.table);
       few = c.requires.few;
-      frame-within = c.bring_in.ensures.within;
-      offset-within = c.requires.offset-within;
+      frame_within = c.bring_in.ensures.within;
+      offset_within = c.requires.offset_within;
       frames = omega (arith, c.requires.exact.frames);
     }

@@ -16,15 +16,15 @@ returns-in-Some c =
       within = omega (arith, c.in-Some.ensures.bound, c.requires.exact.frame_counts);
     }
 
-pub returns-in-Some-lowest-free : goal.returns-in-Some-lowest-free
-returns-in-Some-lowest-free c =
+pub returns-in-Some-lowest_free : goal.returns-in-Some-lowest_free
+returns-in-Some-lowest_free c =
     record {
       value = λ lookers.
           let m = lent c.args.table.now c.args.segments.now lookers c.args.frame_counts.now c.args.used.now c.args.place_counts.now c.args.frames.now c.args.disk.now in
-          (λ i. (c.fetch-registers-in-Some-lowest-free.ensures lookers c.send-out.new.used i, c.send-out.result.1))
-          ∙ ap (λ (p : Whole × Taken). (fetched c.args.limits.frames p.1.frame c.args.place p.0, p.1)) (c.send-out.ensures.value lookers)
-          ∙ brings c.args.limits c.args.pages c.args.processes c.args.registers m c.requires.exact.frame_counts turn c.args.place None (Some c.in-Some-lowest-free.free) c.in-default.ensures.value c.in-Some-lowest-free.ensures.value;
-      within = c.send-out.ensures.within;
+          (λ i. (c.fetch-registers-in-Some-lowest_free.ensures lookers c.send_out.new.used i, c.send_out.result.1))
+          ∙ ap (λ (p : Whole × Taken). (fetched c.args.limits.frames p.1.frame c.args.place p.0, p.1)) (c.send_out.ensures.value lookers)
+          ∙ brings c.args.limits c.args.pages c.args.processes c.args.registers m c.requires.exact.frame_counts turn c.args.place None (Some c.in-Some-lowest_free.free) c.in_default.ensures.value c.in-Some-lowest_free.ensures.value;
+      within = c.send_out.ensures.within;
     }
 
 pub returns-in-None : goal.returns-in-None
@@ -32,6 +32,6 @@ returns-in-None c =
     record {
       value = λ lookers.
           let m = lent c.args.table.now c.args.segments.now lookers c.args.frame_counts.now c.args.used.now c.args.place_counts.now c.args.frames.now c.args.disk.now in
-          c.trade.ensures.value lookers ∙ brings c.args.limits c.args.pages c.args.processes c.args.registers m c.requires.exact.frame_counts turn c.args.place None None c.in-default.ensures.value c.in-None.ensures.value;
+          c.trade.ensures.value lookers ∙ brings c.args.limits c.args.pages c.args.processes c.args.registers m c.requires.exact.frame_counts turn c.args.place None None c.in_default.ensures.value c.in-None.ensures.value;
       within = c.trade.ensures.within;
     }

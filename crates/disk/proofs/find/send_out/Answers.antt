@@ -23,8 +23,8 @@ returns c =
     record {
       value = λ lookers.
           let w = whole z c.args.pages c.args.processes r (lent c.args.table.now c.args.segments.now lookers c.args.frame_counts.now us c.args.place_counts.now c.args.frames.now c.args.disk.now) in
-          let m = lent c.move-out.new.table c.move-out.new.segments lookers c.move-out.new.frame_counts ws c.move-out.new.place_counts c.args.frames.now c.move-out.new.disk in
-          turned_whole z c.args.pages c.args.processes w m us registers t _ transfers (c.move-out.ensures c.args.pages c.args.processes lookers us) refl refl c.wrote.ensures c.purge-lookaside.ensures
+          let m = lent c.move_out.new.table c.move_out.new.segments lookers c.move_out.new.frame_counts ws c.move_out.new.place_counts c.args.frames.now c.move_out.new.disk in
+          turned_whole z c.args.pages c.args.processes w m us registers t _ transfers (c.move_out.ensures c.args.pages c.args.processes lookers us) refl refl c.wrote.ensures c.purge-lookaside.ensures
           ∙ ap (λ (k : Turned). turned_to z.frames w k (gone_out k.frame (z.frames + c.args.place) w.state) transfers.reads transfers.writes) (sym turned);
       within = omega arith;
     }

@@ -16,14 +16,14 @@ returns-in-Some c =
       within = omega (arith, c.in-Some.ensures.bound, c.requires.exact.frame_counts);
     }
 
-pub returns-in-Some-lowest-free : goal.returns-in-Some-lowest-free
-returns-in-Some-lowest-free c =
+pub returns-in-Some-lowest_free : goal.returns-in-Some-lowest_free
+returns-in-Some-lowest_free c =
     record {
       value = λ lookers.
           let m = lent c.args.table.now c.args.segments.now lookers c.args.frame_counts.now c.args.used.now c.args.place_counts.now c.args.frames.now c.args.disk.now in
-          ap (λ (p : Whole × Taken). (p.0, Some p.1)) (c.send-out.ensures.value lookers)
-          ∙ takes c.args.limits c.args.pages c.args.processes c.args.registers m c.requires.exact.frame_counts turn None (Some c.in-Some-lowest-free.place) c.in-default.ensures.value c.in-Some-lowest-free.ensures.value;
-      within = c.send-out.ensures.within;
+          ap (λ (p : Whole × Taken). (p.0, Some p.1)) (c.send_out.ensures.value lookers)
+          ∙ takes c.args.limits c.args.pages c.args.processes c.args.registers m c.requires.exact.frame_counts turn None (Some c.in-Some-lowest_free.place) c.in_default.ensures.value c.in-Some-lowest_free.ensures.value;
+      within = c.send_out.ensures.within;
     }
 
 pub returns-in-None : goal.returns-in-None
@@ -31,6 +31,6 @@ returns-in-None c =
     record {
       value = λ lookers.
           let m = lent c.args.table.now c.args.segments.now lookers c.args.frame_counts.now c.args.used.now c.args.place_counts.now c.args.frames.now c.args.disk.now in
-          takes c.args.limits c.args.pages c.args.processes c.args.registers m c.requires.exact.frame_counts turn None None c.in-default.ensures.value c.in-None.ensures.value;
+          takes c.args.limits c.args.pages c.args.processes c.args.registers m c.requires.exact.frame_counts turn None None c.in_default.ensures.value c.in-None.ensures.value;
       within = tt;
     }

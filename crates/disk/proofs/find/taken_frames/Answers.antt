@@ -7,8 +7,8 @@ returns c =
     record {
       free = taken_is_free;
       none = none_only_if_full;
-      take-bytes = take_keeps_bytes;
-      take-counts = take_keeps_counts;
-      bring-bytes = bring_keeps_bytes;
-      bring-counts = bring_keeps_counts;
+      take_bytes = take_keeps_bytes;
+      take_counts = take_keeps_counts;
+      bring_bytes = bring_keeps_bytes;
+      bring_counts = bring_keeps_counts;
     }

@@ -23,8 +23,8 @@ returns c =
     record {
       value = λ lookers.
           let w = whole z c.args.pages c.args.processes r (lent c.args.table.now c.args.segments.now lookers c.args.frame_counts.now us c.args.place_counts.now c.args.frames.now c.args.disk.now) in
-          let m = lent c.swap-pages.new.table c.swap-pages.new.segments lookers c.swap-pages.new.frame_counts ws c.swap-pages.new.place_counts c.swap-pages.new.frames c.swap-pages.new.disk in
-          turned_whole z c.args.pages c.args.processes w m us registers t _ transfers (c.swap-pages.ensures c.args.pages c.args.processes lookers us) refl refl (c.wrote.ensures ∙ ap (λ (k : Transfers). record { reads = k.reads; writes = counted k.writes }) c.read.ensures) c.purge-lookaside.ensures
+          let m = lent c.swap_pages.new.table c.swap_pages.new.segments lookers c.swap_pages.new.frame_counts ws c.swap_pages.new.place_counts c.swap_pages.new.frames c.swap_pages.new.disk in
+          turned_whole z c.args.pages c.args.processes w m us registers t _ transfers (c.swap_pages.ensures c.args.pages c.args.processes lookers us) refl refl (c.wrote.ensures ∙ ap (λ (k : Transfers). record { reads = k.reads; writes = counted k.writes }) c.read.ensures) c.purge-lookaside.ensures
           ∙ ap (λ (k : Turned). turned_to z.frames w k (exchanged k.frame (z.frames + c.args.place) w.state) transfers.reads transfers.writes) (sym turned);
       within = omega arith;
     }

@@ -13,7 +13,7 @@ returns c pages processes lookers used =
     let fs = cut 256 z.frames c.args.frames.now in
     let ds = cut 256 z.places c.args.disk.now in
     let before = lent c.args.table.now c.args.segments.now lookers c.args.frame_counts.now used c.args.place_counts.now c.args.frames.now c.args.disk.now in
-    let after = lent c.relocate.new.table c.relocate.new.segments lookers c.relocate.new.frame_counts used c.relocate.new.place_counts c.args.frames.now c.copy-across.new.target in
+    let after = lent c.relocate.new.table c.relocate.new.segments lookers c.relocate.new.frame_counts used c.relocate.new.place_counts c.args.frames.now c.copy_across.new.target in
     relocated_view z before after c.args.frame (z.frames + c.args.place) pages processes _
     (record {
       table = c.relocate.ensures.table;
@@ -21,5 +21,5 @@ returns c pages processes lookers used =
       lookers = refl;
       used = refl;
       counts = c.relocate.ensures.counts;
-      pages = ap (λ xs. fs ++ xs) (c.copy-across.ensures z.places z.frames c.requires.frame-within) ∙ copied_out fs ds z.frames c.args.frame c.args.place [] (cut_length 256 z.frames c.args.frames.now) c.requires.frame-within;
+      pages = ap (λ xs. fs ++ xs) (c.copy_across.ensures z.places z.frames c.requires.frame_within) ∙ copied_out fs ds z.frames c.args.frame c.args.place [] (cut_length 256 z.frames c.args.frames.now) c.requires.frame_within;
     })

@@ -8,5 +8,5 @@ returns c =
     record {
       table = c.rename.ensures;
       segments = c.rename-2.ensures;
-      counts = c.swap-counts.ensures ∙ ap (λ n. swap_at c.args.frame (n + c.args.place) 0 counts) c.requires.frame_counts;
+      counts = c.swap_counts.ensures ∙ ap (λ n. swap_at c.args.frame (n + c.args.place) 0 counts) c.requires.frame_counts;
     }

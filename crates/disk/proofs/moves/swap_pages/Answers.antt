@@ -21,5 +21,5 @@ returns c pages processes lookers used =
       lookers = refl;
       used = refl;
       counts = c.relocate.ensures.counts;
-      pages = (λ i. c.exchange.ensures.left z.frames z.places c.requires.place-within i ++ c.exchange.ensures.right z.places z.frames c.requires.frame-within i) ∙ swapped_lists fs ds z.frames c.args.frame c.args.place [] (cut_length 256 z.frames c.args.frames.now) c.requires.frame-within;
+      pages = (λ i. c.exchange.ensures.left z.frames z.places c.requires.place_within i ++ c.exchange.ensures.right z.places z.frames c.requires.frame_within i) ∙ swapped_lists fs ds z.frames c.args.frame c.args.place [] (cut_length 256 z.frames c.args.frames.now) c.requires.frame_within;
     })

@@ -7,7 +7,7 @@ use Rattle.private.specs.SeePage.{see_page}
 use Rattle.private.specs.declared.page.Page.{Page}
 use Rattle.private.specs.declared.page.Page.TheVariants.{Absent, Own, Segment}
 use Rattle.private.proofs.held.add_labels.Goals as goal
-use Rattle.private.proofs.held.add_labels.Goals.{in-Own+in-ok-push, in-default}
+use Rattle.private.proofs.held.add_labels.Goals.{in-Own+in_ok-push, in_default}
 
 no_label : (x : Page) (ps : List fold.Page) → ((l : ℕ) (b : Vec ℕ Global) → x ≡ Own l b → ⊥) → page_labels (see_page x ∷ ps) ≡ page_labels ps
 no_label Absent ps h = refl
@@ -26,15 +26,15 @@ loop-page-preserved c =
     at_drop_more (λ ps. page_labels (map see_page ps)) pages i x c.loop-page-test.true
     ∙ ap (λ y. page_labels (see_page y ∷ rest)) (sym c.page-item.is) in
     elim c.match-page.branch [
-      | in-Own+in-ok-push w ↦
+      | in-Own+in_ok-push w ↦
           ap (λ (v : Vec ℕ Global). vec_items v ++ page_labels rest) w.labels-is
-          ∙ ap (λ ls. ls ++ page_labels rest) w.in-ok-push.ensures.items
+          ∙ ap (λ ls. ls ++ page_labels rest) w.in_ok-push.ensures.items
           ∙ append_assoc had (w.in-Own.label ∷ []) (page_labels rest)
           ∙ ap (λ ls. had ++ ls) (sym (more ∙ ap (λ y. page_labels (see_page y ∷ rest)) w.in-Own.is))
           ∙ old
-      | in-default w ↦
+      | in_default w ↦
           ap (λ (v : Vec ℕ Global). vec_items v ++ page_labels rest) w.labels-is
-          ∙ ap (λ ls. had ++ ls) (sym (more ∙ no_label x rest w.in-default.not-Own))
+          ∙ ap (λ ls. had ++ ls) (sym (more ∙ no_label x rest w.in_default.not-Own))
           ∙ old
     ]
 

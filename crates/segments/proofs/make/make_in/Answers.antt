@@ -18,8 +18,8 @@ returns c processes used places disk h =
     let fs = cut 256 z.frames c.args.frames.now in
     let ds = cut 256 z.places disk in
     let m = view z c.args.pages processes (lent c.args.table.now c.args.segments.now c.args.lookers.now c.args.frame_counts.now used places c.args.frames.now disk) in
-    let segs = c.put-segment.ensures z c.requires.frame-within in
-    let counts = ap (λ xs. xs ++ places) c.count-up.ensures ∙ up_frame c.args.frame_counts.now places z.frames c.requires.frame_counts f c.requires.frame-within in
-    let bytes = ap (λ ps. ps ++ ds) (c.clear.ensures z.frames) ∙ put_frame fs ds z.frames (cut_length 256 z.frames c.args.frames.now) f (replicate 256 0) c.requires.frame-within in
-    c.look.ensures processes c.put-segment.new.segments c.count-up.new.counts used places c.clear.new.memory disk h
+    let segs = c.put_segment.ensures z c.requires.frame_within in
+    let counts = ap (λ xs. xs ++ places) c.count_up.ensures ∙ up_frame c.args.frame_counts.now places z.frames c.requires.frame_counts f c.requires.frame_within in
+    let bytes = ap (λ ps. ps ++ ds) (c.clear.ensures z.frames) ∙ put_frame fs ds z.frames (cut_length 256 z.frames c.args.frames.now) f (replicate 256 0) c.requires.frame_within in
+    c.look.ensures processes c.put_segment.new.segments c.count_up.new.counts used places c.clear.new.memory disk h
     ∙ (λ i. looked (with_segments (with_counts (with_pages m (bytes i)) (counts i)) (segs i)) c.args.process c.args.page c.args.segment)

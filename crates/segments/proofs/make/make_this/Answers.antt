@@ -14,18 +14,18 @@ pub returns-in-None : goal.returns-in-None
 returns-in-None c =
     let z = c.args.limits in
     let by : Whole × Option Taken → Whole × Option Made = λ q. made_by z.frames q.0 c.args.process c.args.page c.args.segment q.1 in
-    let m = lent c.take-frame-taken.new.table c.take-frame-taken.new.segments c.args.lookers.now c.take-frame-taken.new.frame_counts c.take-frame-taken.new.used c.take-frame-taken.new.place_counts c.args.frames.now c.take-frame-taken.new.disk in
-    let w = whole z c.args.pages c.args.processes c.take-frame-taken.result.0 m in
-    ap (λ (o : Option Taken). by (w, o)) (sym c.in-None.is) ∙ ap by (c.take-frame-taken.ensures.value c.args.lookers.now)
+    let m = lent c.take_frame-taken.new.table c.take_frame-taken.new.segments c.args.lookers.now c.take_frame-taken.new.frame_counts c.take_frame-taken.new.used c.take_frame-taken.new.place_counts c.args.frames.now c.take_frame-taken.new.disk in
+    let w = whole z c.args.pages c.args.processes c.take_frame-taken.result.0 m in
+    ap (λ (o : Option Taken). by (w, o)) (sym c.in-None.is) ∙ ap by (c.take_frame-taken.ensures.value c.args.lookers.now)
 
-pub make-in-requires : goal.make-in-requires
-make-in-requires c =
+pub make_in-requires : goal.make_in-requires
+make_in-requires c =
     record {
-      inside = c.requires.page-within;
-      long = omega (arith, row_within c.args.process c.args.processes c.args.pages c.requires.process-within, c.requires.exact.table);
+      inside = c.requires.page_within;
+      long = omega (arith, row_within c.args.process c.args.processes c.args.pages c.requires.process_within, c.requires.exact.table);
       few = c.requires.few;
-      segment-within = c.requires.segment-within;
-      frame-within = subst (λ (o : Option Taken). IfSome o (λ (k : Taken). k.frame < c.args.limits.frames)) c.in-Some.is c.take-frame-taken.ensures.within;
+      segment_within = c.requires.segment_within;
+      frame_within = subst (λ (o : Option Taken). IfSome o (λ (k : Taken). k.frame < c.args.limits.frames)) c.in-Some.is c.take_frame-taken.ensures.within;
       segments = omega (arith, c.requires.exact.segments);
       lookers = c.requires.lookers;
       frame_counts = omega (arith, c.requires.exact.frame_counts);
@@ -36,14 +36,14 @@ pub returns-in-Some : goal.returns-in-Some
 unfolding view
 returns-in-Some c =
     let z = c.args.limits in
-    let r = c.take-frame-taken.result.0 in
+    let r = c.take_frame-taken.result.0 in
     let t = c.in-Some.taken in
     let by : Whole × Option Taken → Whole × Option Made = λ q. made_by z.frames q.0 c.args.process c.args.page c.args.segment q.1 in
     let registers : Registers = record { hand = r.hand; transfers = r.transfers; lookaside = c.purge-lookaside.result } in
-    let m = lent c.take-frame-taken.new.table c.take-frame-taken.new.segments c.args.lookers.now c.take-frame-taken.new.frame_counts c.take-frame-taken.new.used c.take-frame-taken.new.place_counts c.args.frames.now c.take-frame-taken.new.disk in
-    let after = lent c.make-in.new.table c.make-in.new.segments c.make-in.new.lookers c.make-in.new.frame_counts c.take-frame-taken.new.used c.take-frame-taken.new.place_counts c.make-in.new.frames c.take-frame-taken.new.disk in
+    let m = lent c.take_frame-taken.new.table c.take_frame-taken.new.segments c.args.lookers.now c.take_frame-taken.new.frame_counts c.take_frame-taken.new.used c.take_frame-taken.new.place_counts c.args.frames.now c.take_frame-taken.new.disk in
+    let after = lent c.make_in.new.table c.make_in.new.segments c.make_in.new.lookers c.make_in.new.frame_counts c.take_frame-taken.new.used c.take_frame-taken.new.place_counts c.make_in.new.frames c.take_frame-taken.new.disk in
     let w = whole z c.args.pages c.args.processes r m in
     let done = settled_whole z c.args.pages c.args.processes after registers (made_in w.state c.args.process c.args.page c.args.segment t.frame) r.lookaside.slots r.transfers
-    (c.make-in.ensures c.args.processes c.take-frame-taken.new.used c.take-frame-taken.new.place_counts c.take-frame-taken.new.disk c.requires.process-within) refl c.purge-lookaside.ensures in
+    (c.make_in.ensures c.args.processes c.take_frame-taken.new.used c.take_frame-taken.new.place_counts c.take_frame-taken.new.disk c.requires.process_within) refl c.purge-lookaside.ensures in
     (λ i. (done i, Some (record { segment = c.args.segment; looks = t.looks }))) ∙ ap (λ (o : Option Taken). by (w, o)) (sym c.in-Some.is)
-    ∙ ap by (c.take-frame-taken.ensures.value c.args.lookers.now)
+    ∙ ap by (c.take_frame-taken.ensures.value c.args.lookers.now)

@@ -14,8 +14,8 @@ use Rattle.segments.proofs.reach.reach.Goals as goal
 pub walk-found-requires : goal.walk-found-requires
 walk-found-requires c =
     record {
-      inside = c.requires.page-within;
-      long = omega (arith, row_within c.args.process c.args.processes c.args.pages c.requires.process-within, c.requires.exact.table);
+      inside = c.requires.page_within;
+      long = omega (arith, row_within c.args.process c.args.processes c.args.pages c.requires.process_within, c.requires.exact.table);
       segments = c.requires.exact.segments;
       frames = c.requires.exact.frame_counts;
       places = c.requires.exact.place_counts;
@@ -31,7 +31,7 @@ returns-in-Frame c =
       value = λ lookers.
           let w = whole z c.args.pages c.args.processes c.args.registers (lent c.args.table.now c.args.segments.now lookers c.args.frame_counts.now c.args.used.now c.args.place_counts.now c.args.frames.now c.args.disk.now) in
           ap (λ (q : Whole × Taken). (q.0, Some q.1)) (sym (cond-true _ (w, record { frame = f; looks = 0 }) (bring_in turn z.frames (f - z.frames) w) (lt-ltb f z.frames within)))
-          ∙ ap (reached_by turn z.frames w) (ap (spot_of z.frames) (sym c.in-Frame.is) ∙ ap (λ (k : Walked). k.spot) (c.walk-found.ensures.value c.args.processes c.requires.process-within));
+          ∙ ap (reached_by turn z.frames w) (ap (spot_of z.frames) (sym c.in-Frame.is) ∙ ap (λ (k : Walked). k.spot) (c.walk-found.ensures.value c.args.processes c.requires.process_within));
       within = within;
     }
 
@@ -47,7 +47,7 @@ returns-in-Place c =
           ap (λ (q : Whole × Taken). (q.0, Some q.1))
           (c.bring_in.ensures.value lookers ∙ ap (λ k. bring_in turn z.frames k w) same
           ∙ sym (cond-false _ (w, record { frame = z.frames + d; looks = 0 }) (bring_in turn z.frames (z.frames + d - z.frames) w) (le-ltb (z.frames + d) z.frames (omega arith))))
-          ∙ ap (reached_by turn z.frames w) (ap (spot_of z.frames) (sym c.in-Place.is) ∙ ap (λ (k : Walked). k.spot) (c.walk-found.ensures.value c.args.processes c.requires.process-within));
+          ∙ ap (reached_by turn z.frames w) (ap (spot_of z.frames) (sym c.in-Place.is) ∙ ap (λ (k : Walked). k.spot) (c.walk-found.ensures.value c.args.processes c.requires.process_within));
       within = c.bring_in.ensures.within;
     }
 
@@ -59,8 +59,8 @@ returns-in-Nowhere c =
       value = λ lookers.
           let w = whole z c.args.pages c.args.processes c.args.registers (lent c.args.table.now c.args.segments.now lookers c.args.frame_counts.now c.args.used.now c.args.place_counts.now c.args.frames.now c.args.disk.now) in
           elim c.in-Nowhere.is [
-            | inl e ↦ ap (reached_by turn z.frames w) (ap (spot_of z.frames) (sym e) ∙ ap (λ (k : Walked). k.spot) (c.walk-found.ensures.value c.args.processes c.requires.process-within))
-            | inr e ↦ ap (reached_by turn z.frames w) (ap (spot_of z.frames) (sym e) ∙ ap (λ (k : Walked). k.spot) (c.walk-found.ensures.value c.args.processes c.requires.process-within))
+            | inl e ↦ ap (reached_by turn z.frames w) (ap (spot_of z.frames) (sym e) ∙ ap (λ (k : Walked). k.spot) (c.walk-found.ensures.value c.args.processes c.requires.process_within))
+            | inr e ↦ ap (reached_by turn z.frames w) (ap (spot_of z.frames) (sym e) ∙ ap (λ (k : Walked). k.spot) (c.walk-found.ensures.value c.args.processes c.requires.process_within))
           ];
       within = tt;
     }

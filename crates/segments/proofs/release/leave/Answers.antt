@@ -12,8 +12,8 @@ returns-then-unseen c pages processes table used frames disk =
     let z = c.args.limits in
     let s = c.args.segment in
     let m = view z pages processes (lent table c.args.segments.now c.args.lookers.now c.args.frame_counts.now used c.args.place_counts.now frames disk) in
-    let zero : get_or (counted_down c.args.lookers.now s) s 0 ≡ 0 = ap (λ ls. get_or ls s 0) (sym c.count-down.ensures) ∙ c.if-unseen.true in
-    c.give-back.ensures pages processes table c.count-down.new.counts used frames disk ∙ ap (λ ls. given_back (with_lookers m ls) s) c.count-down.ensures
+    let zero : get_or (counted_down c.args.lookers.now s) s 0 ≡ 0 = ap (λ ls. get_or ls s 0) (sym c.count_down.ensures) ∙ c.if-unseen.true in
+    c.give_back.ensures pages processes table c.count_down.new.counts used frames disk ∙ ap (λ ls. given_back (with_lookers m ls) s) c.count_down.ensures
     ∙ sym (cond-true _ _ _ (eq-eqb _ 0 zero))
 
 pub returns-else-unseen : goal.returns-else-unseen
@@ -22,5 +22,5 @@ returns-else-unseen c pages processes table used frames disk =
     let z = c.args.limits in
     let s = c.args.segment in
     let m = view z pages processes (lent table c.args.segments.now c.args.lookers.now c.args.frame_counts.now used c.args.place_counts.now frames disk) in
-    let some : get_or (counted_down c.args.lookers.now s) s 0 ≡ 0 → ⊥ = λ e. c.if-unseen.false (ap (λ ls. get_or ls s 0) c.count-down.ensures ∙ e) in
-    ap (with_lookers m) c.count-down.ensures ∙ sym (cond-false _ _ _ (ne_eqb _ 0 some))
+    let some : get_or (counted_down c.args.lookers.now s) s 0 ≡ 0 → ⊥ = λ e. c.if-unseen.false (ap (λ ls. get_or ls s 0) c.count_down.ensures ∙ e) in
+    ap (with_lookers m) c.count_down.ensures ∙ sym (cond-false _ _ _ (ne_eqb _ 0 some))

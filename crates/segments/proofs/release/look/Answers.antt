@@ -9,5 +9,5 @@ pub returns : goal.returns
 unfolding view looked
 returns c processes segments counts used places frames disk h =
     let z = c.args.limits in
-    let rows = c.write.ensures z processes c.requires.segment-within in
-    λ i. record { rows = rows i; segments = cells z segments; lookers = c.count-up.ensures i; counts = counts ++ places; pages = cut 256 z.frames frames ++ cut 256 z.places disk; used = used }
+    let rows = c.write.ensures z processes c.requires.segment_within in
+    λ i. record { rows = rows i; segments = cells z segments; lookers = c.count_up.ensures i; counts = counts ++ places; pages = cut 256 z.frames frames ++ cut 256 z.places disk; used = used }

@@ -12,7 +12,7 @@ loop-code-preserved c =
     let i = c.loop-code.code-index in
     let table = c.loop-code.table in
     let x = decoded z (get_or table i 0) in
-    map-set (decoded z) table i c.rename-code.result ∙ ap (set (cells z table) i) c.rename-code.ensures
+    map-set (decoded z) table i c.rename_code.result ∙ ap (set (cells z table) i) c.rename_code.ensures
     ∙ map_over_more f (cells z c.args.table.now) (cells z table) i x (omega (arith, length-map c.args.table.now (decoded z))) c.loop-code.invariant
     (sym (get_or-map (decoded z) table i 0 x (omega arith)))
 

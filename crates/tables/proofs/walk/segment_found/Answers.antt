@@ -8,7 +8,7 @@ pub returns : goal.returns
 returns c =
     record {
       value =
-          c.at-location.ensures.value
+          c.at_location.ensures.value
           ∙ ap (λ (e : Cell). walked_segment e.holds) (c.decode-entry.ensures.value ∙ sym (get_or-map (decoded c.args.limits) c.args.segments.now c.args.segment 0 none c.requires));
-      within = c.at-location.ensures.within;
+      within = c.at_location.ensures.within;
     }

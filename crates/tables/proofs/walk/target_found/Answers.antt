@@ -9,7 +9,7 @@ use Rattle.tables.proofs.walk.target_found.Goals as goal
 pub returns-in-Frame : goal.returns-in-Frame
 returns-in-Frame c =
     let z = c.args.limits in
-    let h = subst (Within z) c.in-Frame.is c.requires.target-within in
+    let h = subst (Within z) c.in-Frame.is c.requires.target_within in
     record {
       value =
           ap (λ n. record { spot = lies c.in-Frame.frame; free = leb n 1 }) (sym (at_frame c.args.frame_counts.now c.args.place_counts.now z.frames c.requires.frames c.in-Frame.frame 0 h))
@@ -24,5 +24,5 @@ returns-in-Place c =
       value =
           ap (λ n. record { spot = lies (z.frames + c.in-Place.place); free = leb n 1 }) (sym (at_place c.args.frame_counts.now c.args.place_counts.now z.frames c.requires.frames c.in-Place.place 0))
           ∙ ap (λ (t : Target). walked (cells z c.args.segments.now) (c.args.frame_counts.now ++ c.args.place_counts.now) (held_of z.frames t)) (sym c.in-Place.is);
-      within = subst (Within z) c.in-Place.is c.requires.target-within;
+      within = subst (Within z) c.in-Place.is c.requires.target_within;
     }

@@ -12,7 +12,7 @@ returns-then-used-frame-eq0 c =
     let n = length c.args.used.now in
     record {
       value =
-          ap (λ f. turn_from n n f 0 c.args.used.now) (sym c.first-look-frame.ensures.value) ∙ sym c.loop-passed.invariant.1
+          ap (λ f. turn_from n n f 0 c.args.used.now) (sym c.first_look-frame.ensures.value) ∙ sym c.loop-passed.invariant.1
           ∙ turn_takes n c.loop-passed.frame c.loop-passed.passed c.loop-passed.used (n - c.loop-passed.passed) c.if-used-frame-eq0.true
           ∙ took n c.loop-passed.frame c.loop-passed.passed c.loop-passed.used _ _ _ c.take.ensures.taken c.take.ensures.rests c.take.ensures.looked;
       bound = omega arith;
@@ -22,8 +22,8 @@ pub loop-passed-preserved : goal.loop-passed-preserved
 loop-passed-preserved c =
     let n = length c.args.used.now in
     let left : n - c.loop-passed.passed - 1 ≡ n - (c.loop-passed.passed + 1) = omega arith in (
-      c.next-frame-frame.ensures.bound,
-      ap (λ f. turn_from n (n - (c.loop-passed.passed + 1)) f (c.loop-passed.passed + 1) (set c.loop-passed.used c.loop-passed.frame 0)) c.next-frame-frame.ensures.value
+      c.next_frame-frame.ensures.bound,
+      ap (λ f. turn_from n (n - (c.loop-passed.passed + 1)) f (c.loop-passed.passed + 1) (set c.loop-passed.used c.loop-passed.frame 0)) c.next_frame-frame.ensures.value
           ∙ ap (λ m. turn_from n m (next_frame n c.loop-passed.frame) (c.loop-passed.passed + 1) (set c.loop-passed.used c.loop-passed.frame 0)) (sym left)
           ∙ sym (turn_passes n c.loop-passed.frame c.loop-passed.passed c.loop-passed.used (n - c.loop-passed.passed) (omega arith) c.if-used-frame-eq0.false)
           ∙ c.loop-passed.invariant.1,
@@ -34,7 +34,7 @@ returns c =
     let n = length c.args.used.now in
     record {
       value =
-          ap (λ f. turn_from n n f 0 c.args.used.now) (sym c.first-look-frame.ensures.value) ∙ sym c.loop-passed.invariant.1
+          ap (λ f. turn_from n n f 0 c.args.used.now) (sym c.first_look-frame.ensures.value) ∙ sym c.loop-passed.invariant.1
           ∙ turn_ends n c.loop-passed.frame c.loop-passed.passed c.loop-passed.used (n - c.loop-passed.passed) (omega arith)
           ∙ took n c.loop-passed.frame c.loop-passed.passed c.loop-passed.used _ _ _ c.take-2.ensures.taken c.take-2.ensures.rests (omega (arith, c.take-2.ensures.looked));
       bound = omega arith;

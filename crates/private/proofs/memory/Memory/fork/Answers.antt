@@ -7,8 +7,8 @@ use Rattle.private.specs.SeePage.{see_process}
 use Rattle.private.proofs.Calls as way
 use Rattle.private.proofs.memory.Memory.fork.Goals as goal
 
-pub returns-in-default : goal.returns-in-default
-returns-in-default c = way.both (way.fork_fault (seen_sizes c.args.sizes) (see c.args.self.now) c.args.process c.in-default.ensures)
+pub returns-in_default : goal.returns-in_default
+returns-in_default c = way.both (way.fork_fault (seen_sizes c.args.sizes) (see c.args.self.now) c.args.process c.in_default.ensures)
 
 pub returns-then-child-sizes : goal.returns-then-child-sizes
 returns-then-child-sizes c =
@@ -23,8 +23,8 @@ returns c =
     let done = way.both
     (way.fork_done (seen_sizes c.args.sizes) w c.args.process c.in-Some.ensures.1
     (lt-leb c.args.sizes.processes (fold.first_free w.processes) (omega arith))) in
-    let child = c.free-process-child.ensures in
-    let same = c.in-ok-copy.ensures ∙ c.in-Some.ensures.0 in (
-      c.put-process.ensures ∙ ap (λ k. fold.with_process w k (see_process c.in-ok-copy.copy)) child ∙ ap (fold.with_process w (fold.first_free w.processes)) same ∙ done.0,
+    let child = c.free_process-child.ensures in
+    let same = c.in_ok-copy.ensures ∙ c.in-Some.ensures.0 in (
+      c.put_process.ensures ∙ ap (λ k. fold.with_process w k (see_process c.in_ok-copy.copy)) child ∙ ap (fold.with_process w (fold.first_free w.processes)) same ∙ done.0,
       ap fold.done child ∙ done.1,
     )

@@ -20,7 +20,7 @@ loop-process-preserved c =
     let here : cond x.alive (over_pages f (see_process x).pages) 0 ≡ cond (get_or items i x).alive (over_pages f (see_process (get_or items i x)).pages) 0 =
     ap (λ (q : Process). cond q.alive (over_pages f (see_process q).pages) 0) c.process-item.is in
     let counted = c.count.ensures in
-    let added = c.saturating-add-count.ensures in
+    let added = c.saturating_add-count.ensures in
     (omega arith, omega arith)
 
 pub returns : goal.returns

@@ -10,11 +10,11 @@ pub returns : goal.returns
 unfolding fold.held
 returns c =
     let w = see c.args.self.now in
-    let labels = vec_items c.in-ok-labels.labels in
-    let sorted = vec_items c.sort.new.self in
-    let rising = IsNonDecreasingBy-from_sort (λ x. x) sorted c.in-ok-labels.labels.len (omega arith) c.sort.ensures.sorted in
+    let labels = vec_items c.in_ok-labels.labels in
+    let sorted = vec_items c.sort_unstable.new.self in
+    let rising = IsNonDecreasingBy-from_sort (λ x. x) sorted c.sort_unstable.ensures.sorted in
     let counted : c.distinct.result ≡ fold.labels_from w w.next =
-    c.distinct.ensures ∙ ap (changes 0) c.as-slice.ensures.value
-    ∙ held_labels w labels sorted c.in-ok-labels.ensures c.sort.ensures.permutation rising c.requires in
-    let looked = c.held-segments.ensures in
+    c.distinct.ensures ∙ ap (changes 0) c.as_slice.ensures.value
+    ∙ held_labels w labels sorted c.in_ok-labels.ensures c.sort_unstable.ensures.permutation rising c.requires in
+    let looked = c.held_segments.ensures in
     omega arith

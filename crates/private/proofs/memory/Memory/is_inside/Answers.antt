@@ -2,10 +2,10 @@ use Rattle.std.proofs.Common.{arith, rules}
 use Rattle.fold.specs.Fold.{inside}
 use Rattle.private.proofs.memory.Memory.is_inside.Goals as goal
 
-pub returns-then-is-alive : goal.returns-then-is-alive
+pub returns-then-is_alive : goal.returns-then-is_alive
 unfolding inside
-returns-then-is-alive c = grind arith
+returns-then-is_alive c = grind arith
 
-pub returns-else-is-alive : goal.returns-else-is-alive
+pub returns-else-is_alive : goal.returns-else-is_alive
 unfolding inside
-returns-else-is-alive c = grind arith
+returns-else-is_alive c = grind arith

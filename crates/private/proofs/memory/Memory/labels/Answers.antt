@@ -6,7 +6,7 @@ use Rattle.private.specs.Labelled.{page_labels, all_labels}
 use Rattle.private.specs.SeePage.{see_page, see_process}
 use Rattle.private.specs.declared.process.Process.{Process}
 use Rattle.private.proofs.memory.Memory.labels.Goals as goal
-use Rattle.private.proofs.memory.Memory.labels.Goals.{then-process+in-ok-add-labels, else-process}
+use Rattle.private.proofs.memory.Memory.labels.Goals.{then-process+in_ok-add_labels, else-process}
 
 pub loop-process-preserved : goal.loop-process-preserved
 loop-process-preserved c =
@@ -21,9 +21,9 @@ loop-process-preserved c =
     at_drop_more (λ qs. all_labels (map see_process qs)) items i q c.loop-process-test.true
     ∙ ap (λ (y : Process). cond y.alive (page_labels (see_process y).pages) [] ++ rest) (sym c.process-item.is) in
     elim c.if-process.branch [
-      | then-process+in-ok-add-labels w ↦
+      | then-process+in_ok-add_labels w ↦
           ap (λ (v : Vec ℕ Global). vec_items v ++ rest) w.labels-is
-          ∙ ap (λ ls. ls ++ rest) (w.in-ok-add-labels.ensures ∙ ap (λ ps. had ++ page_labels (map see_page ps)) w.as-slice.ensures.value)
+          ∙ ap (λ ls. ls ++ rest) (w.in_ok-add_labels.ensures ∙ ap (λ ps. had ++ page_labels (map see_page ps)) w.as_slice.ensures.value)
           ∙ append_assoc had ours rest
           ∙ ap (λ ls. had ++ ls) (sym (more ∙ ap (λ ls. ls ++ rest) (cond-true q.alive ours [] w.if-process.true)))
           ∙ old

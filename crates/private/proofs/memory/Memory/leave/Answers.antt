@@ -8,10 +8,10 @@ use Rattle.private.proofs.memory.Memory.leave.Goals as goal
 
 pub returns-then-process-len : goal.returns-then-process-len
 returns-then-process-len c =
-    let q = c.index-mut.result.now in
+    let q = c.index_mut.result.now in
     let as_many : vec_len q.pages ≡ length (map see_page (vec_items q.pages)) = q.pages.ok.0 ∙ sym (length-map (vec_items q.pages) see_page) in
     edited c.args.self.now c.args.process q c.leave.new.self (λ (r : fold.Process). blank false (length r.pages))
-    (omega arith) c.index-mut.ensures.value (c.leave.ensures ∙ ap (blank false) as_many)
+    (omega arith) c.index_mut.ensures.value (c.leave.ensures ∙ ap (blank false) as_many)
 
 pub returns-else-process-len : goal.returns-else-process-len
 returns-else-process-len c =

@@ -7,8 +7,8 @@ use Rattle.private.proofs.memory.Memory.put_page.Goals as goal
 
 pub returns-then-process-len : goal.returns-then-process-len
 returns-then-process-len c =
-    edited c.args.self.now c.args.process c.index-mut.result.now c.put.new.self (λ (r : fold.Process). put_in r c.args.page (see_page c.args.new))
-    (omega arith) c.index-mut.ensures.value c.put.ensures
+    edited c.args.self.now c.args.process c.index_mut.result.now c.put.new.self (λ (r : fold.Process). put_in r c.args.page (see_page c.args.new))
+    (omega arith) c.index_mut.ensures.value c.put.ensures
     ∙ sym (page_is_process (see c.args.self.now) c.args.process c.args.page (see_page c.args.new))
 
 pub returns-else-process-len : goal.returns-else-process-len

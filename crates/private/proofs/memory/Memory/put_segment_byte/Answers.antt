@@ -7,9 +7,9 @@ pub returns-then-segment-len : goal.returns-then-segment-len
 returns-then-segment-len c =
     let m = c.args.self.now in
     let s = c.args.segment in
-    put_segment_here m s c.put-at.new.bytes
-    ∙ ap (with_segment (see m) s) (c.put-at.ensures
-    ∙ ap (λ bs. set bs c.args.offset c.args.byte) (sym (segment_is m s c.index-mut.result.now (omega arith) c.index-mut.ensures.value)))
+    put_segment_here m s c.put_at.new.bytes
+    ∙ ap (with_segment (see m) s) (c.put_at.ensures
+    ∙ ap (λ bs. set bs c.args.offset c.args.byte) (sym (segment_is m s c.index_mut.result.now (omega arith) c.index_mut.ensures.value)))
 
 pub returns-else-segment-len : goal.returns-else-segment-len
 returns-else-segment-len c =

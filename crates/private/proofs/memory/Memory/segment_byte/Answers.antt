@@ -6,9 +6,9 @@ use Rattle.private.proofs.memory.Memory.segment_byte.Goals as goal
 
 pub returns-then-segment-len : goal.returns-then-segment-len
 returns-then-segment-len c =
-    c.byte-at.ensures
+    c.byte_at.ensures
     ∙ ap (λ bs. get_or bs c.args.offset 0)
-    (c.as-slice.ensures.value ∙ sym (segment_is c.args.self.now c.args.segment c.index.result.now (omega arith) c.index.ensures))
+    (c.as_slice.ensures.value ∙ sym (segment_is c.args.self.now c.args.segment c.index.result.now (omega arith) c.index.ensures))
 
 pub returns-else-segment-len : goal.returns-else-segment-len
 returns-else-segment-len c =

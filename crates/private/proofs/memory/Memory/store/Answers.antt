@@ -19,21 +19,21 @@ pub returns-then-not-reaches : goal.returns-then-not-reaches
 returns-then-not-reaches c =
     way.both (way.store_outside (seen_sizes c.args.sizes) (see c.args.self.now) c.args.process c.args.page c.args.offset c.args.byte (sym c.if-not-reaches.ensures))
 
-pub returns-in-default : goal.returns-in-default
+pub returns-in_default : goal.returns-in_default
 unfolding fold.stored
-returns-in-default c =
-    way.both (way.store_inside (seen_sizes c.args.sizes) (see c.args.self.now) c.args.process c.args.page c.args.offset c.args.byte fold.absent (sym c.if-not-reaches.ensures) c.in-default.ensures)
+returns-in_default c =
+    way.both (way.store_inside (seen_sizes c.args.sizes) (see c.args.self.now) c.args.process c.args.page c.args.offset c.args.byte fold.absent (sym c.if-not-reaches.ensures) c.in_default.ensures)
 
 pub returns-in-Own : goal.returns-in-Own
 returns-in-Own c =
-    own_store c.args.sizes c.args.process c.args.page c.in-Own.label c.args.offset c.args.byte (see c.args.self.now) c.store-own.result (see c.store-own.new.self) (vec_items c.in-Own.bytes)
-    (sym c.if-not-reaches.ensures) (c.in-Some.ensures ∙ ap see_page c.in-Own.is) c.store-own.ensures
+    own_store c.args.sizes c.args.process c.args.page c.in-Own.label c.args.offset c.args.byte (see c.args.self.now) c.store_own.result (see c.store_own.new.self) (vec_items c.in-Own.bytes)
+    (sym c.if-not-reaches.ensures) (c.in-Some.ensures ∙ ap see_page c.in-Own.is) c.store_own.ensures
 
 pub returns-in-Segment : goal.returns-in-Segment
 unfolding fold.stored
 returns-in-Segment c =
     let done = way.both (way.store_inside (seen_sizes c.args.sizes) (see c.args.self.now) c.args.process c.args.page c.args.offset c.args.byte (fold.seen c.in-Segment.number) (sym c.if-not-reaches.ensures) (c.in-Some.ensures ∙ ap see_page c.in-Segment.is)) in
-    (c.put-segment-byte.ensures ∙ done.0, done.1)
+    (c.put_segment_byte.ensures ∙ done.0, done.1)
 
 pub returns-in-Absent : goal.returns-in-Absent
 unfolding fold.stored

@@ -25,10 +25,10 @@ returns-in-Own c =
     ap (λ k. matching k (see_page c.args.self.now)) c.in-Labelled.is
     ∙ ap (λ p. is_own c.in-Labelled.wanted (see_page p)) c.in-Own.is
 
-pub returns-in-default : goal.returns-in-default
-returns-in-default c =
+pub returns-in_default : goal.returns-in_default
+returns-in_default c =
     ap (λ k. matching k (see_page c.args.self.now)) c.in-Labelled.is
-    ∙ not_own c.in-Labelled.wanted c.args.self.now c.in-default.not-Own
+    ∙ not_own c.in-Labelled.wanted c.args.self.now c.in_default.not-Own
 
 pub returns-in-Segment : goal.returns-in-Segment
 unfolding is_seen
@@ -36,7 +36,7 @@ returns-in-Segment c =
     ap (λ k. matching k (see_page c.args.self.now)) c.in-Looking.is
     ∙ ap (λ p. is_seen c.in-Looking.wanted (see_page p)) c.in-Segment.is
 
-pub returns-in-default-self : goal.returns-in-default-self
-returns-in-default-self c =
+pub returns-in_default-self : goal.returns-in_default-self
+returns-in_default-self c =
     ap (λ k. matching k (see_page c.args.self.now)) c.in-Looking.is
-    ∙ not_segment c.in-Looking.wanted c.args.self.now c.in-default-self.not-Segment
+    ∙ not_segment c.in-Looking.wanted c.args.self.now c.in_default-self.not-Segment

@@ -15,5 +15,5 @@ pub returns-in-Absent : goal.returns-in-Absent
 unfolding there
 returns-in-Absent c = sym (ap (λ p. there (see_page p)) c.in-Absent.is)
 
-pub returns-in-default : goal.returns-in-default
-returns-in-default c = other c.args.self.now c.in-default.not-Absent
+pub returns-in_default : goal.returns-in_default
+returns-in_default c = other c.args.self.now c.in_default.not-Absent

@@ -7,5 +7,5 @@ use Rattle.private.proofs.page.Page.store.Goals as goal
 pub returns-else-offset-len : goal.returns-else-offset-len
 returns-else-offset-len c =
     let past : length (vec_items c.in-Own.bytes) ≤ c.args.offset = omega arith in
-    sym (ap (λ p. rewritten c.args.new-label c.args.offset c.args.byte (see_page p)) c.in-Own.is
-    ∙ ap (own c.args.new-label) (set_past (vec_items c.in-Own.bytes) c.args.offset c.args.byte past))
+    sym (ap (λ p. rewritten c.args.new_label c.args.offset c.args.byte (see_page p)) c.in-Own.is
+    ∙ ap (own c.args.new_label) (set_past (vec_items c.in-Own.bytes) c.args.offset c.args.byte past))

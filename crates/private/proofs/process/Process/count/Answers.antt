@@ -5,7 +5,7 @@ use Rattle.fold.specs.Fold.{over_pages}
 use Rattle.private.specs.SeePage.{see_page, matching}
 use Rattle.private.proofs.Pages.{over_pages_more}
 use Rattle.private.proofs.process.Process.count.Goals as goal
-use Rattle.private.proofs.process.Process.count.Goals.{then-is-sought, else-is-sought}
+use Rattle.private.proofs.process.Process.count.Goals.{then-is_sought, else-is_sought}
 
 pub loop-page-preserved : goal.loop-page-preserved
 loop-page-preserved c =
@@ -15,9 +15,9 @@ loop-page-preserved c =
     let x = c.page-item.result in
     let more = over_pages_more f items i x c.loop-page-test.true in
     let here : f (see_page x) ≡ f (see_page (get_or items i x)) = ap (λ p. f (see_page p)) c.page-item.is in
-    elim c.if-is-sought.branch [
-      | then-is-sought w ↦ let one = w.if-is-sought.ensures in (omega arith, omega arith)
-      | else-is-sought w ↦ let none = w.if-is-sought.ensures in (omega arith, omega arith)
+    elim c.if-is_sought.branch [
+      | then-is_sought w ↦ let one = w.if-is_sought.ensures in (omega arith, omega arith)
+      | else-is_sought w ↦ let none = w.if-is_sought.ensures in (omega arith, omega arith)
     ]
 
 pub returns : goal.returns

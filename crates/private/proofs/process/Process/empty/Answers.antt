@@ -6,12 +6,12 @@ use Rattle.private.specs.declared.page.Page.TheVariants.{Absent}
 use Rattle.private.proofs.process.Process.empty.Goals as goal
 
 pub loop-init : goal.loop-init
-loop-init c = ap (map see_page) c.in-ok-pages.ensures.items
+loop-init c = ap (map see_page) c.in_ok-pages.ensures.items
 
 pub loop-preserved : goal.loop-preserved
 loop-preserved c =
     let old = c.loop.invariant in
-    let pushed = c.in-ok-push.ensures.items in
+    let pushed = c.in_ok-push.ensures.items in
     let ours = map_push see_page (vec_items c.loop.pages) Absent in
     let theirs = replicate_more c.loop.counter fold.absent in
     cc

@@ -7,7 +7,7 @@ use Rattle.private.proofs.process.Process.store.Goals as goal
 pub returns-then-page-len : goal.returns-then-page-len
 returns-then-page-len c =
     let q = c.args.self.now in
-    let was = page_is q c.args.page c.index-mut.result.now (omega arith) c.index-mut.ensures.value in
+    let was = page_is q c.args.page c.index_mut.result.now (omega arith) c.index_mut.ensures.value in
     put_here q c.args.page c.store.new.self
     ∙ ap (put_in (see_process q) c.args.page) (c.store.ensures ∙ ap (rewritten c.args.label c.args.offset c.args.byte) (sym was))
 

@@ -14,7 +14,7 @@ loop-process-preserved c =
     let f : List Cell → ℕ = over_row (is_sought c.args.sought) in
     let p = c.loop-process.process in
     let within : p < length (rows_of s) = omega (arith, snapshot_rows s) in
-    ((λ i. c.loop-process.invariant.0 i + c.count-in-row-count.ensures.value i) ∙ sym (sum_by_more f (rows_of s) p [] within), omega (arith, c.loop-process.invariant.1))
+    ((λ i. c.loop-process.invariant.0 i + c.count_in_row-count.ensures.value i) ∙ sym (sum_by_more f (rows_of s) p [] within), omega (arith, c.loop-process.invariant.1))
 
 pub returns : goal.returns
 returns c =

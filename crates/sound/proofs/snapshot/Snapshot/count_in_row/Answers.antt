@@ -12,8 +12,8 @@ use Rattle.sound.proofs.snapshot.Snapshot.count_in_row.Goals as goal
 pub loop-page-init : goal.loop-page-init
 loop-page-init c = (refl, omega arith)
 
-pub overflow-add-count : goal.overflow-add-count
-overflow-add-count c = omega (arith, c.loop-page.invariant.1)
+pub overflow_add-count : goal.overflow_add-count
+overflow_add-count c = omega (arith, c.loop-page.invariant.1)
 
 pub loop-page-preserved : goal.loop-page-preserved
 loop-page-preserved c =
@@ -22,7 +22,7 @@ loop-page-preserved c =
     let rs = row (rows_of s) c.args.process in
     let v = c.loop-page.page in
     let within : v < length rs = omega (arith, snapshot_row s c.args.process c.requires) in
-    let here : c.count-count.result ≡ f (get_or rs v none) = c.count-count.ensures.value ∙ ap f c.entry-at-entry.ensures.value in
+    let here : c.count-count.result ≡ f (get_or rs v none) = c.count-count.ensures.value ∙ ap f c.entry_at-entry.ensures.value in
     let more = sum_by_more f rs v none within in
     ((λ i. c.loop-page.invariant.0 i + here i) ∙ sym more, omega (arith, c.loop-page.invariant.1))
 

@@ -14,7 +14,7 @@ loop-segment-preserved c =
     let f : Cell → ℕ = λ (x : Cell). is_sought c.args.sought x.holds in
     let v = c.loop-segment.segment in
     let within : v < length (segments_of s) = omega (arith, snapshot_segments s) in
-    let here : c.count-count.result ≡ f (get_or (segments_of s) v none) = c.count-count.ensures.value ∙ ap f c.segment-entry-entry.ensures.value in
+    let here : c.count-count.result ≡ f (get_or (segments_of s) v none) = c.count-count.ensures.value ∙ ap f c.segment_entry-entry.ensures.value in
     ((λ i. c.loop-segment.invariant.0 i + here i) ∙ sym (sum_by_more f (segments_of s) v none within), omega (arith, c.loop-segment.invariant.1))
 
 pub returns : goal.returns

@@ -3,4 +3,4 @@ use Rattle.sound.proofs.snapshot.Snapshot.looks_of.Goals as goal
 
 pub returns : goal.returns
 unfolding view
-returns c = c.count-in-pages.ensures.value
+returns c = c.count_in_pages.ensures.value

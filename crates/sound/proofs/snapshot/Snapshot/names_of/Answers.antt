@@ -4,4 +4,4 @@ use Rattle.sound.proofs.snapshot.Snapshot.names_of.Goals as goal
 
 pub returns : goal.returns
 unfolding view
-returns c = λ i. c.count-in-pages.ensures.value i + c.count-in-segments.ensures.value i
+returns c = λ i. c.count_in_pages.ensures.value i + c.count_in_segments.ensures.value i
