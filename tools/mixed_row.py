@@ -160,8 +160,8 @@ def mixed():
         assert (kind, "fault") in seen and (kind, "done") in seen, kind
     assert all((kind, "full") in seen for kind in ["fork", "make", "store"])
     lines = [f"{i} {a if isinstance(a, str) else 'done ' + str(a)}\n" for i, a in enumerate(answers)]
-    write(["examples/mixed.row", "crates/run/stdin"], head(*sizes) + b"".join(encoded(*c) for c in calls))
-    write(["examples/mixed.out", "crates/run/stdout"], "".join(lines).encode())
+    write(["examples/mixed.row", "crates/examples/data/mixed.row", "crates/run/stdin"], head(*sizes) + b"".join(encoded(*c) for c in calls))
+    write(["examples/mixed.out", "crates/examples/data/mixed.out", "crates/run/stdout"], "".join(lines).encode())
 
 
 if len(sys.argv) == 3:

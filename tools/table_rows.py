@@ -1,9 +1,10 @@
 #!/usr/bin/env python3
-"""Writes all rows of examples/ but mixed, with what is expected of each. The answers are a table, not computed."""
+"""Writes all rows of examples/ but mixed, and the copies of them that the gate plays, with what is expected of each. The answers are a table, not computed."""
 import os
 
 KIND = dict(fork=1, leave=2, map=3, drop=4, make=5, look=6, load=7, store=8, counts=9)
-HERE = os.path.join(os.path.dirname(os.path.abspath(__file__)), "..", "examples")
+ROOT = os.path.join(os.path.dirname(os.path.abspath(__file__)), "..")
+FOLDERS = [os.path.join(ROOT, "examples"), os.path.join(ROOT, "crates", "examples", "data")]
 
 
 def sizes(*five):
@@ -16,10 +17,11 @@ def call(text, tail=bytes(3)):
 
 
 def write(name, row, out):
-    with open(os.path.join(HERE, name + ".row"), "wb") as f:
-        f.write(row)
-    with open(os.path.join(HERE, name + ".out"), "w") as f:
-        f.write(out)
+    for folder in FOLDERS:
+        with open(os.path.join(folder, name + ".row"), "wb") as f:
+            f.write(row)
+        with open(os.path.join(folder, name + ".out"), "w") as f:
+            f.write(out)
 
 
 def line(i, answer):

@@ -1,19 +1,18 @@
 -- A manager over memory that is all zeros is a machine at its start.
-use Rattle.std.proofs.Common.{◌≡◌, ℕ, zero, suc, ◌+◌, ◌-◌, ◌*◌, ◌≤◌, min, Bool, true, false, List, [], ◌∷◌, ◌++◌, map, length, take, drop, replicate, Some, None, Ok, Err, Option, sym, refl, ap, ◌∙◌, suc-mul, arith}
-use borrow.Rule.Slice.PartMut.{put_mid}
+use Rattle.std.proofs.Common.{◌≡◌, ℕ, zero, suc, ◌+◌, ◌-◌, ◌*◌, ◌≤◌, min, true, false, List, ◌∷◌, ◌++◌, map, length, take, drop, replicate, Some, None, Ok, Err, Option, sym, refl, ap, ◌∙◌, suc-mul, arith}
 use Rattle.std.proofs.lemmas.List.{drop-replicate, length-take, length-drop, replicate-append-replicate, take-replicate}
 use Rattle.frames.specs.Cut.{cut}
 use Rattle.requests.specs.Meaning.{seen_sizes}
 use Rattle.requests.specs.Refusals.{unless_refused}
 use Rattle.requests.specs.declared.answer.Refusal.{Refusal}
 use Rattle.requests.specs.declared.sizes.Sizes.{Sizes}
-use Rattle.tables.specs.Cells.{Cell, decoded, none}
+use Rattle.tables.specs.Cells.{decoded, none}
 use Rattle.tables.specs.State.{Lent, view}
 use Rattle.tables.proofs.Rows.{map_replicate}
 use Rattle.disk.specs.Moves.{lent}
 use Rattle.calls.specs.declared.manager.Manager.{Manager}
 use Rattle.calls.specs.Entry.{Opened, cut_lent, rest_lent}
-use Rattle.calls.specs.Machine.{Machine, first}
+use Rattle.calls.specs.Machine.{first}
 use Rattle.calls.specs.Memory.{limits_of, machine}
 
 -- rows of one and the same element

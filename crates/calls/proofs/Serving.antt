@@ -1,5 +1,5 @@
 -- From what the parts of a call leave to what the call leaves.
-use Rattle.std.proofs.Common.{◌≡◌, ℕ, ◌<◌, Bool, true, false, cond, not, ◌&&◌, List, [], ◌++◌, get_or, set, Some, None, Option, sym, refl, ap, ◌∙◌, arith}
+use Rattle.std.proofs.Common.{◌≡◌, ℕ, ◌<◌, Bool, List, [], ◌++◌, get_or, set, Some, None, Option, sym, refl, ap, ◌∙◌, arith}
 use lib.Seq.{take-set-lt}
 use Rattle.fold.specs.Fold as fold
 use Rattle.frames.specs.Cut.{cut, row, stored}
@@ -8,14 +8,12 @@ use Rattle.requests.specs.Meaning as asks
 use Rattle.requests.specs.Meaning.{Asked, answered, seen_sizes}
 use Rattle.requests.specs.Ranges.{InRange, ranged}
 use Rattle.requests.specs.declared.answer.Answer.{Answer}
-use Rattle.requests.specs.declared.answer.Answer.TheVariants.{Done, Fault, Full}
 use Rattle.requests.specs.declared.sizes.Sizes.{Sizes}
 use Rattle.tables.specs.Cells.{Few}
 use Rattle.tables.specs.State.{Lent, State, view}
 use Rattle.tables.proofs.Locations.{at_frame, put_frame}
 use Rattle.calls.specs.declared.manager.Manager.{Manager}
 use Rattle.calls.specs.Calls.{calls, changed, with_alive}
-use Rattle.calls.specs.Machine.{Machine}
 use Rattle.calls.specs.Memory.{Served, Serves, limits_of, machine, serve}
 
 -- a call that is refused leaves all as it was

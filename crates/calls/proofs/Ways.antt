@@ -1,7 +1,7 @@
 -- Each call by the outcome of its first test.
-use Rattle.std.proofs.Common.{◌≡◌, ℕ, Bool, true, false, cond, not, ◌&&◌, ltb, ◌⊎◌, ⊎_elim}
+use Rattle.std.proofs.Common.{◌≡◌, ℕ, Bool, true, false, not, ◌&&◌, ltb, ⊎_elim}
 use Rattle.std.proofs.lemmas.Bool.{cond-true, cond-false, and_cases, and_from, and_left, and_parts, and_right}
-use Rattle.fold.specs.Fold.{Sizes, Call, Answer, fork, leave, map, drop, make, look, load, store, done, fault, full}
+use Rattle.fold.specs.Fold.{Sizes, fork, leave, map, drop, make, look, load, store, done, fault}
 use Rattle.disk.specs.Whole.{Choice}
 use Rattle.segments.specs.Make.{make_segment}
 use Rattle.segments.specs.Release.{dropped}

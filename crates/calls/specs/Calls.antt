@@ -1,6 +1,6 @@
 -- What each call does and answers, by frames, page tables, copies at a store, look-aside table and disk: the one text of the rule. The choice of the frame
 -- whose page goes to the disk is its parameter. Assumes nothing.
-use Rattle.std.specs.Prelude.{ℕ, ◌+◌, ◌*◌, Bool, true, false, cond, not, ◌&&◌, List, Some, None, Option, nat_lt, slice_index, slice_set}
+use Rattle.std.specs.Prelude.{ℕ, ◌+◌, ◌*◌, Bool, true, false, cond, not, ◌&&◌, Some, None, Option, nat_lt, slice_index, slice_set}
 use Rattle.fold.specs.Fold.{Sizes, Call, Answer, fork, leave, map, drop, make, look, load, store, done, fault, full}
 use Rattle.frames.specs.Cut.{row, stored}
 use Rattle.frames.specs.Turn.{turn}

@@ -1,5 +1,5 @@
 -- What the public entries promise: lent memory may be longer than the machine needs and hold anything; too short is refused. Assumes nothing.
-use Rattle.std.specs.Prelude.{◌≡◌, ℕ, ◌+◌, ◌*◌, ◌≤◌, Bool, true, false, cond, ◌&&◌, List, length, take, drop, Some, None, Ok, Err, Option, Result, nat_le}
+use Rattle.std.specs.Prelude.{◌≡◌, ◌*◌, ◌≤◌, Bool, cond, ◌&&◌, length, take, drop, Some, None, Ok, Err, Option, Result, nat_le}
 use Rattle.requests.specs.Meaning.{Asked, asked, seen_sizes}
 use Rattle.requests.specs.Ranges.{InRange, ranged, sizes_refusal}
 use Rattle.requests.specs.Refusals.{either_refusal}
@@ -10,7 +10,7 @@ use Rattle.requests.specs.declared.request.Call.{Call}
 use Rattle.requests.specs.declared.sizes.Sizes.{Sizes}
 use Rattle.tables.specs.State.{Lent}
 use Rattle.calls.specs.declared.manager.Manager.{Manager}
-use Rattle.calls.specs.Machine.{Machine, first}
+use Rattle.calls.specs.Machine.{first}
 use Rattle.calls.specs.Memory.{Served, machine}
 
 -- every table is long enough

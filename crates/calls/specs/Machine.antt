@@ -1,5 +1,5 @@
 -- The whole manager as one value, and how it begins. Assumes nothing.
-use Rattle.std.specs.Prelude.{ℕ, suc, ◌+◌, ◌-◌, Bool, true, false, cond, List, [], ◌∷◌, replicate, Some, None, Option, slice_index_or}
+use Rattle.std.specs.Prelude.{ℕ, ◌+◌, ◌-◌, Bool, true, false, cond, List, [], ◌∷◌, replicate, Some, None, Option, slice_index_or}
 use Rattle.fold.specs.Fold.{Sizes}
 use Rattle.tables.specs.Cells.{none}
 use Rattle.tables.specs.State.{State}

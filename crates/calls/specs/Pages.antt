@@ -1,5 +1,5 @@
 -- What calls do to page tables and counts: map, fork, leave. Assumes nothing.
-use Rattle.std.specs.Prelude.{ℕ, zero, suc, true, List}
+use Rattle.std.specs.Prelude.{ℕ, zero, suc, true}
 use Rattle.frames.specs.Counts.{counted_up}
 use Rattle.tables.specs.Cells.{Held, Cell, nothing, zeros, at, segment}
 use Rattle.tables.specs.Rows.{entry_of, shared_row, with_entry}

@@ -1,4 +1,6 @@
 // The memory manager: it is opened over lent memory, and answers calls.
+#![tactic(auto)]
+
 mod entries;
 pub mod entry;
 mod family;

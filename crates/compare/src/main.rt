@@ -1,4 +1,6 @@
 // Plays random rows on the manager and on the machine of private memories, and compares what they answer, call by call.
+#![tactic(auto)]
+
 ghost use Rattle.requests.specs.Ranges.{InRange, ranged};
 
 mod chooser;

@@ -1,15 +1,15 @@
 -- A store that has to copy is full exactly where nothing is free, and every store says whether it copied.
-use Rattle.std.proofs.Common.{◌≡◌, ℕ, Bool, true, false, cond, ◌⊎◌, Some, None, Option, sym, refl, ap, ◌∙◌, inl, inr}
+use Rattle.std.proofs.Common.{◌≡◌, ℕ, true, false, Some, None, Option, sym, refl, ap, ◌∙◌, inl, inr}
 use Rattle.std.proofs.lemmas.Bool.{cases_Bool, cond-true, cond-false}
 use Rattle.tables.specs.Cells.{Held, nothing, zeros, at, segment}
 use Rattle.lookaside.proofs.Options.{none≢some, some_same}
 use Rattle.disk.specs.declared.registers.Taken.{Taken}
-use Rattle.disk.specs.Whole.{Choice, Whole, free_frame, free_place, take_frame, taken_by}
+use Rattle.disk.specs.Whole.{Choice, Whole, take_frame, taken_by}
 use Rattle.disk.proofs.Taking.{none_only_if_full}
 use Rattle.copies.specs.declared.anew.Written.{Written}
 use Rattle.copies.specs.Anew.{written_by, stored_anew}
 use Rattle.copies.specs.Own.{alone_by, own_holds, stored_own}
-use Rattle.copies.specs.Laws.{copies_first, UsedUp, FullExactly, FullWhenUsedUp, SaysCopied}
+use Rattle.copies.specs.Laws.{copies_first, UsedUp, FullWhenUsedUp, SaysCopied}
 
 module _ (choose : Choice) (frames : ℕ) (w : Whole) (p v o b : ℕ) where
   copying : copies_first w p v ≡ true → stored_own choose frames w p v o b ≡ stored_anew choose frames w p v o b

@@ -1,8 +1,8 @@
 -- A count or a page that was changed in one of the two lists, in the space of all locations.
-use Rattle.std.proofs.Common.{◌≡◌, ℕ, ◌+◌, ◌-◌, ◌<◌, min, List, [], ◌++◌, length, get_or, set, sym, refl, ap, ◌∙◌, arith}
-use Rattle.std.proofs.lemmas.List.{get_or-set_same, set-set, length-set}
+use Rattle.std.proofs.Common.{◌≡◌, ℕ, ◌+◌, ◌-◌, ◌<◌, min, List, [], ◌++◌, length, get_or, set, sym, ap, ◌∙◌}
+use Rattle.std.proofs.lemmas.List.{get_or-set_same, set-set}
 use Rattle.frames.specs.Counts.{counted_down, counted_up}
-use Rattle.frames.specs.Cut.{row, stored}
+use Rattle.frames.specs.Cut.{stored}
 use Rattle.tables.proofs.Locations.{at_frame, at_place, put_frame, put_place}
 
 module _ (frames places : List ℕ) (n : ℕ) (e : length frames ≡ n) where

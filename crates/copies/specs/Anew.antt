@@ -1,11 +1,10 @@
 -- A store that needs a page of its own: it takes a frame first and then looks at the entry, since the hand may have sent the very page to the disk.
 -- Assumes nothing.
-use Rattle.std.specs.Prelude.{ℕ, Bool, true, false, cond, List, Some, None, Option, nat_le}
+use Rattle.std.specs.Prelude.{ℕ, true, cond, Some, None, Option, nat_le}
 use Rattle.tables.specs.Cells.{Held, nothing, zeros, at, segment}
 use Rattle.tables.specs.Rows.{entry_of}
 use Rattle.tables.specs.State.{State}
 use Rattle.disk.specs.declared.registers.Taken.{Taken}
-use Rattle.disk.specs.declared.registers.Transfers.{Transfers}
 use Rattle.disk.specs.Counted.{counted}
 use Rattle.disk.specs.Whole.{Choice, Whole, settled, take_frame}
 use Rattle.copies.specs.declared.anew.Written.{Written}

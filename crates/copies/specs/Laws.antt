@@ -1,5 +1,5 @@
 -- What a store to an own page answers, whatever the choice of the frame. Assumes nothing.
-use Rattle.std.specs.Prelude.{◌≡◌, ℕ, Bool, true, false, Some, None}
+use Rattle.std.specs.Prelude.{◌≡◌, ℕ, Bool, true, Some, None}
 use Rattle.disk.specs.Whole.{Choice, Whole, free_frame, free_place}
 use Rattle.copies.specs.declared.anew.Written.{Written}
 use Rattle.copies.specs.Own.{must_copy, own_holds, stored_own}

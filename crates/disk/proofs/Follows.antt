@@ -1,5 +1,5 @@
 -- Two locations change their names: what follows.
-use Rattle.std.proofs.Common.{◌≡◌, ℕ, ◌+◌, ◌<◌, ◌≤◌, Bool, true, false, cond, eqb, leb, ◌≢◌, ◌⊎◌, List, [], ◌∷◌, map, length, get_or, set, sum_by, sym, refl, ap, ◌∙◌, inl, inr, arith}
+use Rattle.std.proofs.Common.{◌≡◌, ℕ, ◌+◌, ◌<◌, cond, eqb, leb, ◌≢◌, ◌⊎◌, List, [], ◌∷◌, map, length, get_or, set, sum_by, sym, refl, ap, ◌∙◌, inl, inr, arith}
 use mathlib.Core.Path.{fun_ext}
 use Rattle.std.proofs.lemmas.List.Sums.{sum_by-cons}
 use Rattle.std.proofs.lemmas.List.{get_or-map, get_or_past, get_or-set_same, get_or-set_other, length-map, length-set}
@@ -8,8 +8,8 @@ use Rattle.frames.specs.Cut.{row}
 use Rattle.tables.specs.Cells.{Held, Cell, none, nothing, zeros, at, segment, swapped, held_swapped, renamed}
 use Rattle.tables.specs.Rows.{entry_of}
 use Rattle.tables.specs.State.{State, Spot, Walked, nowhere, blank, lies, walk, walked, walked_segment}
-use Rattle.disk.specs.Moves.{swap_at, relocated, gone_out, come_in, exchanged}
-use Rattle.disk.specs.Follows.{spot_moved, segment_spot, bytes_at, WalkFollows, SegmentFollows, NobodyAt, SameBytes, There, OutKeepsBytes, InKeepsBytes, ExchangeKeepsBytes, names, namers, named, CountsRight, CountsFollow}
+use Rattle.disk.specs.Moves.{swap_at, relocated}
+use Rattle.disk.specs.Follows.{spot_moved, segment_spot, bytes_at, WalkFollows, SegmentFollows, SameBytes, OutKeepsBytes, InKeepsBytes, ExchangeKeepsBytes, names, namers, named, CountsFollow}
 
 -- a map read at any index, where it takes the default to the default
 pub map_at : {X Y : Type 0} (f : X → Y) (xs : List X) (i : ℕ) (d : X) (e : Y) → f d ≡ e → get_or (map f xs) i e ≡ f (get_or xs i d)

@@ -1,14 +1,14 @@
 -- What is free is nobody's, so that taking a frame and bringing a page in change no byte, and counts stay right.
-use Rattle.std.proofs.Common.{◌≡◌, ℕ, ◌+◌, ◌<◌, ◌≤◌, eqb, ◌≢◌, ◌⊎◌, List, [], length, get_or, set, Some, None, sum_by, Option, sym, refl, ap, ◌∙◌, inl, inr, arith}
+use Rattle.std.proofs.Common.{◌≡◌, ℕ, ◌+◌, ◌<◌, eqb, ◌≢◌, List, [], length, get_or, Some, None, sum_by, Option, sym, refl, ap, ◌∙◌, inl, inr, arith}
 use Rattle.std.proofs.lemmas.List.Sums.{get_or-le-sum_by}
 use Rattle.std.proofs.lemmas.List.{get_or_past, length-set}
 use Rattle.std.proofs.lemmas.Bool.{cases_lt, cond-true, eq-eqb}
 use Rattle.frames.specs.Cut.{row}
 use Rattle.tables.specs.Cells.{Held, Cell, none, nothing, zeros, at, segment}
 use Rattle.tables.specs.Rows.{entry_of}
-use Rattle.tables.specs.State.{State, Spot, nowhere, blank, lies, walk, walked, walked_segment}
-use Rattle.disk.specs.Moves.{swap_at, relocated, gone_out, come_in, exchanged}
-use Rattle.disk.specs.Follows.{segment_spot, bytes_at, NobodyAt, SameBytes, There, names, namers, named, CountsRight, FreeIsNobodys}
+use Rattle.tables.specs.State.{State, Spot, nowhere, blank, lies, walked, walked_segment}
+use Rattle.disk.specs.Moves.{relocated, gone_out, come_in, exchanged}
+use Rattle.disk.specs.Follows.{segment_spot, bytes_at, SameBytes, There, names, namers, named, CountsRight, FreeIsNobodys}
 use Rattle.disk.specs.Whole.{Choice, Whole, with_used, free_frame, free_place, taken_by, take_frame, brought_by, bring_in}
 use Rattle.disk.specs.Frames.{Ready, TakeKeepsBytes, TakeKeepsCounts, BringKeepsBytes, BringKeepsCounts}
 use Rattle.disk.proofs.Follows.{out_keeps_bytes, in_keeps_bytes, exchange_keeps_bytes, counts_follow, swap_first}

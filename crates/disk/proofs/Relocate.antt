@@ -1,14 +1,14 @@
 -- From what the parts of a move leave to what all lent memory means then.
-use Rattle.std.proofs.Common.{◌≡◌, ℕ, ◌+◌, ◌*◌, ◌<◌, ◌≢◌, List, [], ◌++◌, map, length, get_or, set, sym, refl, ap, ◌∙◌, arith}
+use Rattle.std.proofs.Common.{◌≡◌, ℕ, ◌+◌, ◌<◌, List, ◌++◌, map, length, get_or, set, sym, ap, ◌∙◌}
 use Rattle.std.proofs.lemmas.List.{length-set}
-use Rattle.frames.specs.Cut.{cut, row}
-use Rattle.frames.proofs.Cut.{cut_length, cut_map}
+use Rattle.frames.specs.Cut.{cut}
+use Rattle.frames.proofs.Cut.{cut_map}
 use Rattle.tables.specs.declared.entry.Limits.{Limits}
-use Rattle.tables.specs.Cells.{Cell, renamed}
+use Rattle.tables.specs.Cells.{renamed}
 use Rattle.tables.specs.Rows.{cells}
 use Rattle.tables.specs.State.{Lent, view}
 use Rattle.tables.proofs.Locations.{at_frame, at_place, put_frame, put_place}
-use Rattle.disk.specs.Moves.{lent, swap_at, relocated}
+use Rattle.disk.specs.Moves.{swap_at, relocated}
 
 -- one from each list exchanged
 pub swapped_lists : {X : Type 0} (frames places : List X) (n f d : ℕ) (x : X) → length frames ≡ n → f < n → set frames f (get_or places d x) ++ set places d (get_or frames f x) ≡ swap_at f (n + d) x (frames ++ places)

@@ -1,5 +1,5 @@
 -- From what the parts leave to what lent memory and registers mean together.
-use Rattle.std.proofs.Common.{◌≡◌, ℕ, ◌+◌, List, ◌++◌, length, take, drop, Option, sym, refl, ap, ◌∙◌}
+use Rattle.std.proofs.Common.{◌≡◌, ℕ, List, ◌++◌, length, Option, sym, ap, ◌∙◌}
 use Rattle.std.proofs.lemmas.List.{take_at, drop_at}
 use Rattle.frames.specs.Counts.{lowest_free}
 use Rattle.frames.specs.Turn.{Turned}

@@ -1,5 +1,5 @@
 -- A frame that was taken is free, and none is given only where nothing is.
-use Rattle.std.proofs.Common.{◌≡◌, ℕ, ◌+◌, ◌<◌, ◌≤◌, ◌≢◌, List, [], length, get_or, take, drop, Some, None, Option, sym, refl, ap, ◌∙◌, subst, arith, MatchOption}
+use Rattle.std.proofs.Common.{◌≡◌, ℕ, ◌+◌, ◌<◌, ◌≤◌, ◌≢◌, List, length, get_or, Some, None, Option, sym, refl, ap, ◌∙◌, subst, arith, MatchOption}
 use Rattle.std.proofs.lemmas.List.{get_or-take, get_or-drop, length-take, length-drop}
 use Rattle.frames.specs.Counts.{lowest_free}
 use Rattle.frames.proofs.Lowest.{lowest_is_free}
@@ -7,7 +7,7 @@ use Rattle.lookaside.proofs.Options.{none≢some, some_same}
 use Rattle.disk.specs.declared.registers.Taken.{Taken}
 use Rattle.disk.specs.Moves.{swap_at, relocated}
 use Rattle.disk.specs.Whole.{Choice, Whole, free_frame, free_place, taken_by, take_frame}
-use Rattle.disk.specs.Frames.{Chooses, TakenIsFree, NoneLeft, NoneOnlyIfFull}
+use Rattle.disk.specs.Frames.{Chooses, TakenIsFree, NoneOnlyIfFull}
 use Rattle.disk.proofs.Follows.{swap_first}
 
 -- the lowest free index is within, and has count 0

@@ -1,8 +1,8 @@
 -- What moving pages keeps: where a page lies follows the page, its bytes stay, and counts stay right. Assumes nothing.
-use Rattle.std.specs.Prelude.{◌≡◌, ℕ, ◌+◌, ◌<◌, Bool, true, false, cond, ◌≢◌, List, [], length, replicate, sum_by, ◌==◌, slice_index, slice_index_or}
+use Rattle.std.specs.Prelude.{◌≡◌, ℕ, ◌+◌, ◌<◌, cond, ◌≢◌, List, [], length, replicate, sum_by, ◌==◌, slice_index, slice_index_or}
 use Rattle.frames.specs.Cut.{row}
 use Rattle.tables.specs.Cells.{Held, Cell, none, nothing, zeros, at, segment, swapped}
-use Rattle.tables.specs.State.{State, Spot, Walked, nowhere, blank, lies, walk, walked_segment}
+use Rattle.tables.specs.State.{State, Spot, nowhere, blank, lies, walk, walked_segment}
 use Rattle.disk.specs.Moves.{come_in, exchanged, gone_out, relocated}
 
 abbrev pub spot_moved : ℕ → ℕ → Spot → Spot

@@ -1,7 +1,7 @@
 -- A page goes out, a page comes in, two pages change places: in each two locations change their names. Assumes nothing.
-use Rattle.std.specs.Prelude.{ℕ, ◌+◌, List, [], map, slice_index_or, slice_set}
+use Rattle.std.specs.Prelude.{ℕ, List, [], map, slice_index_or, slice_set}
 use Rattle.frames.specs.Cut.{row}
-use Rattle.tables.specs.Cells.{Cell, renamed}
+use Rattle.tables.specs.Cells.{renamed}
 use Rattle.tables.specs.State.{Lent, State}
 
 -- all that is lent, list by list

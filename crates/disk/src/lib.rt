@@ -1,4 +1,6 @@
 // The disk: pages go out to places and come in again, and a frame is found for whoever needs one.
+#![tactic(auto)]
+
 pub mod find;
 pub mod moves;
 pub mod registers;

@@ -1,4 +1,6 @@
 // Plays each example that is named on the command line, and says whether it came out as expected.
+#![tactic(auto)]
+
 use anyhow::anyhow;
 use std::{env, fs};
 

@@ -1,8 +1,8 @@
 -- Who uses a label, who looks at a segment, and how what is held follows from that.
-use Rattle.std.proofs.Common.{◌≡◌, ℕ, zero, suc, ◌+◌, ◌<◌, ◌≤◌, Bool, true, false, cond, not, ◌&&◌, eqb, ltb, ◌≢◌, ◌⊎◌, List, [], length, sym, refl, ap, ◌∙◌, subst, inl, inr, ⊎_elim, arith}
-use Rattle.std.proofs.lemmas.Bool.{cases_Bool, cond-true, cond-false, eqb-true, eqb-false, eq-eqb, ne_eqb, and_parts, and_from, not-true, not_from_false, cases_lt}
+use Rattle.std.proofs.Common.{◌≡◌, ℕ, zero, suc, ◌+◌, ◌<◌, ◌≤◌, Bool, true, false, cond, not, ◌&&◌, eqb, ◌≢◌, List, length, sym, refl, ap, inl, inr, arith}
+use Rattle.std.proofs.lemmas.Bool.{cases_Bool, cond-true, cond-false, eqb-true, eqb-false, eq-eqb, ne_eqb, and_parts, and_from, not-true, not_from_false}
 use Rattle.fold.specs.Fold.{Page, World, absent, own, seen, page, is_own, is_seen, users, lookers, labels_from, segments_from, held}
-use Rattle.fold.proofs.Count.{one, count, count_le, count_one_more, count_none, count_cong}
+use Rattle.fold.proofs.Count.{one, count, count_le}
 use Rattle.fold.proofs.Sums.{page_below, two_below, page_member}
 
 -- some page has the label l; some page is segment s

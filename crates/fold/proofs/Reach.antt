@@ -1,12 +1,12 @@
 -- What holds of every world that a row of calls reaches: an invariant that the start has and every call keeps.
-use Rattle.std.proofs.Common.{◌≡◌, ℕ, zero, suc, ◌+◌, ◌<◌, ◌≤◌, Bool, true, false, cond, ◌≢◌, ◌⊎◌, List, [], ◌∷◌, length, get_or, set, replicate, sym, refl, ap, ◌∙◌, subst, inl, inr, ⊎_elim, arith}
+use Rattle.std.proofs.Common.{◌≡◌, ℕ, zero, suc, ◌<◌, ◌≤◌, Bool, true, false, ◌≢◌, ◌⊎◌, List, [], ◌∷◌, length, get_or, set, replicate, sym, refl, ap, ◌∙◌, subst, inl, inr, ⊎_elim, arith}
 use Rattle.std.proofs.lemmas.List.{length-set, length-replicate, get_or-set_same, get_or-set_other, get_or_past, get_or-replicate, set_past}
-use Rattle.std.proofs.lemmas.Bool.{cases_lt, cases_eq, cases_Bool, cond-true, cond-false, both_ways}
-use Rattle.fold.specs.Fold.{Page, Process, Sizes, World, Call, Answer, absent, own, seen, nobody, process, page, held, users, with_page, with_process, call, after, begin, others, there}
+use Rattle.std.proofs.lemmas.Bool.{cases_lt, cases_eq, cond-false, both_ways}
+use Rattle.fold.specs.Fold.{Page, Process, Sizes, World, Call, absent, own, seen, nobody, process, page, held, users, with_page, with_process, call, after, begin, others}
 use Rattle.fold.proofs.Count.{one, count, count_one_more, count_none}
-use Rattle.fold.proofs.Pages.{page_of, page_is, same_pages, same_process, alive_with_page, width_with_page, page_with_page, page_with_process, process_either, alive_below, page_put, page_other}
-use Rattle.fold.proofs.Held.{Uses, Looks, uses_from, uses_twice, looks_from, label_held, segment_held, held_is, held_le, labels_le, segments_le, label_held_of, segment_held_of, label_held_from, segment_held_from}
-use Rattle.fold.proofs.Ways.{Inside, Shared, Ways, by_ways, gone, zeros, segment, with_segment, with_label, with_made, free_process, free_segment}
+use Rattle.fold.proofs.Pages.{page_of, page_is, same_pages, same_process, alive_with_page, width_with_page, page_with_process, process_either, page_put, page_other}
+use Rattle.fold.proofs.Held.{Uses, Looks, uses_twice, label_held, segment_held, held_is, held_le, labels_le, segments_le, label_held_of, segment_held_of, segment_held_from}
+use Rattle.fold.proofs.Ways.{Inside, Ways, by_ways, gone, zeros, segment, with_segment, with_label, with_made, free_process, free_segment}
 
 -- a page as it can be: its label was given out, it has all its bytes, label 0 is zeros; a segment is one of the machine's
 abbrev pub Good : Sizes → World → Page → Type 0

@@ -1,11 +1,11 @@
 -- The statements of the machine of private memories, proved by the ways of a call and by what every reachable world has.
-use Rattle.std.proofs.Common.{◌≡◌, ℕ, suc, ◌<◌, ◌≤◌, Bool, true, false, cond, ◌≢◌, ◌⊎◌, List, [], length, get_or, set, sym, refl, ap, ◌∙◌, subst, inl, inr, ⊎_elim, arith}
+use Rattle.std.proofs.Common.{◌≡◌, ℕ, ◌<◌, true, ◌⊎◌, List, [], length, get_or, set, sym, refl, ap, ◌∙◌, inl, inr, arith}
 use Rattle.std.proofs.lemmas.List.{get_or-set_same}
 use Rattle.std.proofs.lemmas.Bool.{cond-false}
-use Rattle.fold.specs.Fold.{Page, Process, Sizes, World, Call, Answer, absent, own, seen, process, page, with_page, with_process, call, after, begin, fork, load, store, done, fault, full}
+use Rattle.fold.specs.Fold.{Page, Process, Sizes, World, absent, own, seen, process, page, with_page, with_process, call, after, begin, load, done, fault, full}
 use Rattle.fold.specs.Promise.{Apart, Child, OneLabel, WithinHold, NothingLeft, LoadAfterStore, RefusedUnchanged}
 use Rattle.fold.proofs.Pages.{page_of, page_is, process_put, alive_with_page, page_put, page_other, same_pages, same_process}
-use Rattle.fold.proofs.Ways.{Inside, Ways, by_fork, by_store, by_ways, load_own, load_seen, load_same, segment, with_label, with_segment, free_process}
+use Rattle.fold.proofs.Ways.{Inside, by_fork, by_store, by_ways, load_own, load_seen, load_same, segment, with_segment, free_process}
 use Rattle.fold.proofs.Reach.{Sound, sound, nothing_held, good_at}
 
 fault≢done : (n : ℕ) → fault ≡ done n → ⊥

@@ -1,6 +1,6 @@
 -- The ways that a call can go, each with the tests that led there as facts. A statement about a call, its world and its answer
 -- is proved by showing it for each way: no proof elsewhere opens `call`.
-use Rattle.std.proofs.Common.{◌≡◌, ℕ, suc, ◌<◌, ◌≤◌, Bool, true, false, cond, not, ◌&&◌, ◌||◌, eqb, ltb, leb, ◌≢◌, ◌⊎◌, List, [], length, get_or, set, replicate, sym, refl, ap, ◌∙◌, subst, inl, inr, ⊎_elim}
+use Rattle.std.proofs.Common.{◌≡◌, ℕ, suc, ◌<◌, ◌≤◌, Bool, true, false, cond, not, ◌&&◌, ◌||◌, eqb, ltb, ◌≢◌, ◌⊎◌, List, [], get_or, set, replicate, refl, ap, ◌∙◌, inl, inr, ⊎_elim}
 use Rattle.std.proofs.lemmas.Bool.{cond_both, and_parts, or_cases, or_parts, not-true, not-false, ltb-true, ltb-false, leb-true, leb-false, eqb-true, eqb-false, true≢false, cond-true, and_from, lt-ltb}
 use Rattle.fold.specs.Fold.{Page, Process, Sizes, World, Call, Answer, absent, own, seen, process, page, users, held, with_page, with_process, first_free, first_segment, inside, there, stored, loaded, looked, call, more_than_one, fork, leave, map, drop, make, look, load, store, done, fault, full}
 

@@ -1,7 +1,7 @@
 -- What processes see of their memory: every process has pages of its own, a fork copies them, and nothing is shared but
 -- segments. There are no frames, tables, copies at a store or disk in it. Labels only count what has to be held.
 -- Assumes nothing: these are definitions.
-use Rattle.std.specs.Prelude.{◌≡◌, ℕ, zero, suc, ◌+◌, ◌*◌, ◌<◌, ◌≤◌, Bool, true, false, cond, not, ◌&&◌, ◌||◌, List, [], ◌∷◌, ◌++◌, length, replicate, ◌==◌, nat_le, nat_lt, slice_index, slice_index_or, slice_set}
+use Rattle.std.specs.Prelude.{ℕ, zero, suc, ◌+◌, ◌<◌, Bool, true, false, cond, not, ◌&&◌, ◌||◌, List, [], ◌∷◌, length, replicate, ◌==◌, nat_le, nat_lt, slice_index, slice_index_or, slice_set}
 
 abbrev pub more_than_one : ℕ → Bool
 more_than_one n = nat_lt 1 n

@@ -1,7 +1,7 @@
 -- What is promised: each a statement, a type whose proof is in proofs/ and is asked for by a function of src/.
 -- Assumes nothing.
-use Rattle.std.specs.Prelude.{◌≡◌, ℕ, suc, ◌+◌, ◌-◌, ◌<◌, ◌≤◌, Bool, true, false, ◌≢◌, ◌⊎◌, List, [], ◌∷◌}
-use Rattle.fold.specs.Fold.{Page, Process, Sizes, World, Call, Answer, process, page, users, held, call, answers, after, begin, own, fork, load, store, done, fault, full, Bytes}
+use Rattle.std.specs.Prelude.{◌≡◌, ℕ, suc, ◌+◌, ◌-◌, ◌<◌, ◌≤◌, false, ◌≢◌, ◌⊎◌, List, [], ◌∷◌}
+use Rattle.fold.specs.Fold.{Sizes, World, Call, Answer, process, page, held, call, answers, after, begin, own, fork, load, store, done, fault, full, Bytes}
 
 -- what a manager of any kind answers to a row of calls, by what it does at one call
 unfoldable pub manager_answers : {Manager : Type 0} → (Sizes → Manager → Call → Manager × Answer) → Sizes → Manager → List Call → List Answer

@@ -1,5 +1,7 @@
 // What is seen: the machine of private memories is in specs/. The functions here carry what is proved of it: the contract of
 // each is one statement, so the crate is refused where its proof is missing.
+#![tactic(auto)]
+
 ghost use Rattle.std.specs.Prelude.{◌≡◌, min, length};
 ghost use Rattle.fold.specs.Fold.{more_than_one};
 ghost use Rattle.fold.specs.Promise.{Apart, ByHold, Child, LoadAfterStore, NothingLeft, OneLabel, RefusedUnchanged, Splits, WithinHold};

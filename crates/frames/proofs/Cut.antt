@@ -1,9 +1,8 @@
 -- Laws of a flat list as rows, for any length of a row.
-use Rattle.std.proofs.Common.{◌≡◌, ℕ, zero, suc, ◌+◌, ◌-◌, ◌*◌, ◌<◌, ◌≤◌, ◌≢◌, ◌⊎◌, List, [], ◌∷◌, ◌++◌, map, length, get_or, take, drop, set, sym, refl, ap, ◌∙◌, inl, inr, add_assoc, suc-mul, add_comm, zero-add, zero-mul, arith}
+use Rattle.std.proofs.Common.{◌≡◌, ℕ, zero, suc, ◌+◌, ◌*◌, ◌<◌, ◌≤◌, List, [], ◌∷◌, ◌++◌, map, length, get_or, take, drop, set, sym, refl, ap, ◌∙◌, suc-mul, zero-mul, arith}
 use borrow.Rule.Slice.PartMut.{put_mid}
-use Rattle.std.proofs.lemmas.List.{take-map, drop-map, length-take, length-drop, length-append, take_at, drop_at, drop-drop, drop-take, take-append-le, drop-append-le, take-set-le, drop-set-lt, drop-set-add, same_lists, get_or-take, get_or-drop, get_or-set_same, get_or-set_other, length-set}
+use Rattle.std.proofs.lemmas.List.{take-map, drop-map, length-take, length-drop, take_at, drop_at, drop-drop, drop-take, drop-append-le, take-set-le, drop-set-lt, drop-set-add, get_or-take, get_or-drop}
 use Rattle.std.proofs.lemmas.Slice.{take-put_mid_below}
-use Rattle.std.proofs.lemmas.Bool.{cases_eq, cases_lt}
 use Rattle.frames.specs.Cut.{cut, row}
 
 pub cut_length : {X : Type 0} (w n : ℕ) (xs : List X) → length (cut w n xs) ≡ n

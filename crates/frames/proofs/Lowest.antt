@@ -1,8 +1,8 @@
 -- The search for the lowest count 0, step by step, and what it says of every index.
-use Rattle.std.proofs.Common.{◌≡◌, ℕ, zero, suc, ◌+◌, ◌-◌, ◌<◌, ◌≤◌, min, Bool, true, false, cond, eqb, ◌≢◌, ◌⊎◌, List, [], ◌∷◌, length, get_or, drop, set, Some, None, Option, sym, refl, ap, ◌∙◌, subst, inl, inr, arith, MatchOption}
+use Rattle.std.proofs.Common.{◌≡◌, ℕ, zero, suc, ◌+◌, ◌-◌, ◌<◌, ◌≤◌, min, cond, eqb, ◌≢◌, List, [], ◌∷◌, length, get_or, drop, Some, None, Option, sym, ap, ◌∙◌, subst, inl, inr, arith, MatchOption}
 use Rattle.std.proofs.lemmas.List.{at_drop_more, at_drop_all, get_or-set_same, get_or-set_other}
 use Rattle.std.proofs.lemmas.Bool.{cond-true, cond-false, cases_eq, eq-eqb, ne_eqb}
-use Rattle.frames.specs.Counts.{lowest_from, lowest_free, counted_up, counted_down, LowestIsFree, CountsOne}
+use Rattle.frames.specs.Counts.{lowest_from, lowest_free, LowestIsFree, CountsOne}
 
 module _ (cs : List ℕ) (i : ℕ) where
   unfolded : i < length cs → lowest_from i (drop i cs) ≡ cond (eqb (get_or cs i 0) 0) (Some i) (lowest_from (i + 1) (drop (i + 1) cs))

@@ -1,8 +1,8 @@
 -- The hand, one look at a time.
-use Rattle.std.proofs.Common.{◌≡◌, ℕ, zero, suc, ◌+◌, ◌-◌, ◌<◌, ◌≤◌, Bool, true, false, cond, eqb, ltb, ◌≢◌, ◌⊎◌, List, length, get_or, set, sym, refl, ap, ◌∙◌, subst, inl, inr, add-zero, suc-add, zero-add, arith}
+use Rattle.std.proofs.Common.{◌≡◌, ℕ, zero, suc, ◌+◌, ◌-◌, ◌<◌, ◌≤◌, ltb, ◌≢◌, ◌⊎◌, List, length, get_or, set, sym, refl, ap, ◌∙◌, subst, inl, inr, add-zero, suc-add, zero-add, arith}
 use Rattle.std.proofs.lemmas.List.{get_or-set_same, get_or-set_other, set_past, length-set}
 use Rattle.std.proofs.lemmas.Bool.{cond-true, cond-false, cond_both, eq-eqb, ne_eqb, ltb-true, lt-ltb, le-ltb, cases_eq, cases_lt}
-use Rattle.frames.specs.Turn.{Turned, taken, turn_from, next_frame, frame_after, start, turn, GoesRound, HandGoesRound}
+use Rattle.frames.specs.Turn.{Turned, taken, turn_from, next_frame, frame_after, start, turn, HandGoesRound}
 
 module _ (n : ℕ) (f k : ℕ) (used : List ℕ) where
   pub turn_takes : (more : ℕ) → get_or used f 0 ≡ 0 → turn_from n more f k used ≡ taken n f k used

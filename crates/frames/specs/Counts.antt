@@ -1,5 +1,5 @@
 -- Tables of counts: the lowest index of count 0, one more and one less. Assumes nothing.
-use Rattle.std.specs.Prelude.{◌≡◌, ℕ, suc, ◌+◌, ◌-◌, ◌<◌, min, Bool, cond, ◌≢◌, List, [], ◌∷◌, length, Some, None, Option, MatchOption, ◌==◌, slice_index, slice_set}
+use Rattle.std.specs.Prelude.{◌≡◌, ℕ, ◌+◌, ◌-◌, ◌<◌, min, cond, ◌≢◌, List, [], ◌∷◌, length, Some, None, Option, MatchOption, ◌==◌, slice_index, slice_set}
 
 -- the lowest index of count 0, from i on
 unfoldable pub lowest_from : ℕ → List ℕ → Option ℕ

@@ -1,5 +1,5 @@
 -- A flat list as rows of the same length: memory as pages, a table as the rows of its processes. Assumes nothing.
-use Rattle.std.specs.Prelude.{ℕ, zero, suc, ◌+◌, ◌*◌, List, [], ◌∷◌, length, take, drop, slice_index_or, slice_set}
+use Rattle.std.specs.Prelude.{ℕ, zero, suc, List, [], ◌∷◌, take, drop, slice_index_or, slice_set}
 
 -- the first n rows of w elements
 unfoldable pub cut : {X : Type 0} → ℕ → ℕ → List X → List (List X)

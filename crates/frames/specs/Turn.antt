@@ -1,5 +1,5 @@
 -- The hand: it goes round over the frames from where it rests and takes the first that has no used mark. Assumes nothing.
-use Rattle.std.specs.Prelude.{◌≡◌, ℕ, zero, suc, ◌+◌, ◌-◌, ◌<◌, ◌≤◌, Bool, cond, ◌≢◌, List, length, set, ◌==◌, nat_lt, slice_index, slice_index_or, slice_set}
+use Rattle.std.specs.Prelude.{◌≡◌, ℕ, zero, suc, ◌+◌, ◌-◌, ◌<◌, ◌≤◌, cond, ◌≢◌, List, length, ◌==◌, nat_lt, slice_index, slice_index_or, slice_set}
 
 -- the frame that was taken, where the hand rests now, how many frames it looked at, and the marks that are left
 pub record Turned : Type 0 where

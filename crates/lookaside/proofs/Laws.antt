@@ -1,12 +1,12 @@
 -- The laws of the look-aside table, from its definitions.
-use Rattle.std.proofs.Common.{◌≡◌, ℕ, ◌<◌, ◌≤◌, Bool, true, false, cond, ◌&&◌, eqb, ltb, ◌≢◌, ◌⊎◌, List, map, length, get_or, set, Some, None, Option, sym, refl, ap, ◌∙◌, inl, inr, arith}
+use Rattle.std.proofs.Common.{◌≡◌, ℕ, ◌<◌, true, List, length, get_or, Some, None, Option, sym, refl, ap, ◌∙◌, inl, inr, arith}
 use Rattle.std.proofs.lemmas.List.{get_or-map, get_or_past, length-map, get_or-set_same, get_or-set_other}
 use Rattle.std.proofs.lemmas.Bool.{cases_lt, cases_Bool, cond-true, cond-false, and_from, eq-eqb, lt-ltb}
 use Rattle.tables.specs.Cells.{Cell}
 use Rattle.lookaside.specs.declared.slots.Slot.{Slot}
 use Rattle.lookaside.specs.Laws.{PurgedIsTrue, TrueIsKept, PutIsFound, OthersStay}
 use Rattle.lookaside.specs.Purge.{kept_slot, purged, true_slot}
-use Rattle.lookaside.specs.Slots.{hit, hits, slot_of}
+use Rattle.lookaside.specs.Slots.{hit, slot_of}
 use Rattle.lookaside.proofs.Options.{none≢some, some_same}
 
 module _ (rows : List (List Cell)) (segments : List Cell) (counts : List ℕ) (frames : ℕ) where

@@ -1,5 +1,5 @@
 -- What is there and what is not there are told apart.
-use Rattle.std.proofs.Common.{◌≡◌, ℕ, Some, None, Option, arith}
+use Rattle.std.proofs.Common.{◌≡◌, ℕ, Some, None, arith}
 
 pub none≢some : {X : Type 0} (x : X) → None ≡ Some x → ⊥
 none≢some x e = let z : ◌≡◌ {A = ℕ} 0 1 = cc in omega arith

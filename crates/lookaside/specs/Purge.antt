@@ -1,5 +1,5 @@
 -- A slot is true where a walk answers it so, and a purge keeps just these. Assumes nothing.
-use Rattle.std.specs.Prelude.{ℕ, Bool, true, false, cond, not, ◌&&◌, List, map, Some, None, Option, ◌==◌, nat_lt}
+use Rattle.std.specs.Prelude.{ℕ, Bool, false, cond, not, ◌&&◌, List, map, Some, None, Option, ◌==◌, nat_lt}
 use Rattle.tables.specs.Cells.{Cell}
 use Rattle.tables.specs.Rows.{entry_of}
 use Rattle.tables.specs.State.{Spot, Walked, walked, nowhere, blank, lies}

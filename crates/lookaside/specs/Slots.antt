@@ -1,5 +1,5 @@
 -- Sixteen slots: find and put. Assumes nothing.
-use Rattle.std.specs.Prelude.{ℕ, ◌+◌, ◌*◌, ◌%◌, Bool, true, false, cond, ◌&&◌, List, Some, None, Option, ◌==◌, nat_lt, slice_index_or, slice_set}
+use Rattle.std.specs.Prelude.{ℕ, ◌+◌, ◌*◌, ◌%◌, Bool, cond, ◌&&◌, List, Some, None, Option, ◌==◌, nat_lt, slice_index_or, slice_set}
 use Rattle.lookaside.specs.declared.slots.Slot.{Slot}
 
 abbrev pub slot_of : ℕ → ℕ → ℕ

@@ -1,5 +1,5 @@
 -- A machine lends its own memory and has it back: what a call says of lent lists it says of the machine.
-use Rattle.std.proofs.Common.{◌≡◌, ℕ, ◌*◌, Bool, true, false, cond, ◌&&◌, leb, List, length, is_some, Some, None, Ok, Err, Option, Result, sym, refl, ap, ◌∙◌, subst, arith}
+use Rattle.std.proofs.Common.{◌≡◌, ℕ, ◌*◌, false, cond, ◌&&◌, leb, length, is_some, Some, None, Ok, Err, Option, Result, sym, refl, ap, ◌∙◌, arith}
 use Rattle.std.proofs.lemmas.Bool.{true≢false}
 use Rattle.requests.specs.Meaning.{Asked, seen_sizes}
 use Rattle.requests.specs.Ranges.{sizes_refusal}

@@ -1,4 +1,6 @@
 // A whole row of calls, as the machine of private memories answers it.
+#![tactic(auto)]
+
 ghost use Rattle.std.specs.Prelude.{◌≡◌, IfOk, string_bytes};
 ghost use Rattle.play.specs.Seen.{seen_text};
 

@@ -1,5 +1,5 @@
 -- What the machine's call is, way by way. Each lemma takes what the tests on its way came out as.
-use Rattle.std.proofs.Common.{◌≡◌, ℕ, suc, ◌+◌, Bool, true, false, cond, not, ◌&&◌, ◌||◌, eqb, ltb, leb, List, [], get_or, set, replicate, sym, refl, ap, ◌∙◌}
+use Rattle.std.proofs.Common.{◌≡◌, ℕ, suc, Bool, true, false, not, ◌&&◌, ◌||◌, eqb, ltb, leb, List, set, replicate, sym, refl, ap}
 use Rattle.fold.specs.Fold as fold
 use Rattle.fold.specs.Fold.{World, Sizes, Page, Answer, call, process, page, inside, there, held, users, first_free, first_segment, with_page, with_process, stored, loaded, looked, more_than_one}
 

@@ -1,5 +1,5 @@
 -- How a process's pages look after a write, and how a count over them goes on.
-use Rattle.std.proofs.Common.{◌≡◌, ℕ, ◌+◌, ◌<◌, ◌≤◌, List, [], ◌∷◌, map, length, get_or, drop, set, vec_items, vec_len, sym, refl, ap, ◌∙◌, arith}
+use Rattle.std.proofs.Common.{◌≡◌, ℕ, ◌+◌, ◌<◌, ◌≤◌, List, map, length, get_or, drop, vec_items, vec_len, sym, ap, ◌∙◌, arith}
 use Rattle.std.proofs.lemmas.List.{map-set, set_past, length-map, get_or-map, get_or_past, at_drop_more}
 use Rattle.std.specs.Vec.{with_item}
 use Rattle.fold.specs.Fold as fold

@@ -7,7 +7,7 @@ use Rattle.std.specs.declared.alloc.Global.{Global}
 use Rattle.fold.specs.Fold as fold
 use Rattle.fold.specs.Fold.{process, with_process, with_page, over_all, first_free, first_segment, segments_from, lookers, page}
 use Rattle.private.specs.See.{see, with_segment, segment_at, with_byte}
-use Rattle.private.specs.SeePage.{see_page, see_process, put_in, rewritten}
+use Rattle.private.specs.SeePage.{see_process, put_in, rewritten}
 use Rattle.private.specs.declared.memory.Memory.{Memory}
 use Rattle.private.specs.declared.process.Process.{Process}
 

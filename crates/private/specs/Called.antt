@@ -1,5 +1,5 @@
 -- What opening and calling a machine is to the machine of private memories. Assumes nothing.
-use Rattle.std.specs.Prelude.{◌≡◌, ℕ, ◌-◌, Ok, Err, Result}
+use Rattle.std.specs.Prelude.{◌≡◌, ◌-◌, Ok, Err, Result}
 use Rattle.fold.specs.Fold as fold
 use Rattle.requests.specs.Meaning.{Asked, calls, counts, asked, seen_sizes}
 use Rattle.requests.specs.declared.answer.Answer.{Answer}

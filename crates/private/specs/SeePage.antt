@@ -1,5 +1,5 @@
 -- What a page and a process of the code are to the machine of private memories. Assumes nothing.
-use Rattle.std.specs.Prelude.{◌≡◌, ℕ, Bool, List, map, replicate, vec_items, slice_index_or, slice_set}
+use Rattle.std.specs.Prelude.{ℕ, Bool, map, replicate, vec_items, slice_index_or, slice_set}
 use Rattle.fold.specs.Fold as fold
 use Rattle.private.specs.declared.page.Page.{Page}
 use Rattle.private.specs.declared.page.Page.TheVariants.{Absent, Own, Segment}

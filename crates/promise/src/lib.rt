@@ -1,5 +1,7 @@
 // What is promised of the manager: each function carries one statement, its contract, so the crate is refused where a proof is missing. The statements are
 // in specs/, and speak of the manager's written definition, which the code of the manager is proved to follow.
+#![tactic(auto)]
+
 ghost use Rattle.fold.specs.Promise.{SameAnswers};
 ghost use Rattle.calls.specs.Machine.{Machine, first};
 ghost use Rattle.calls.specs.Calls.{calls};

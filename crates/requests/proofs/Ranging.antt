@@ -1,5 +1,5 @@
 -- Sizes that are not refused are in range.
-use Rattle.std.proofs.Common.{◌≡◌, ℕ, suc, ◌&&◌, leb, List, [], ◌∷◌, Some, None, sym, ◌∙◌, inl, inr, arith}
+use Rattle.std.proofs.Common.{◌≡◌, ℕ, suc, ◌&&◌, leb, List, [], ◌∷◌, None, sym, ◌∙◌, inl, inr, arith}
 use Rattle.std.proofs.lemmas.Bool.{and_parts, cases_Bool, cond-false, cond-true, leb-true}
 use Rattle.requests.specs.Ranges.{InRange, Ranged, out_of_range}
 

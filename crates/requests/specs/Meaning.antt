@@ -1,5 +1,5 @@
 -- What the calls, answers and sizes of the code mean to the machine of private memories. Assumes nothing.
-use Rattle.std.specs.Prelude.{◌≡◌, ℕ, ◌+◌}
+use Rattle.std.specs.Prelude.{◌+◌}
 use Rattle.fold.specs.Fold as fold
 use Rattle.requests.specs.declared.request.Call.{Call}
 use Rattle.requests.specs.declared.request.Call.TheVariants.{Fork, Leave, Map, Drop, Make, Look, Load, Store, Counts}

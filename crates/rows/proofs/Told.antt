@@ -1,5 +1,5 @@
 -- One call of a row, and the line that it writes.
-use Rattle.std.proofs.Common.{◌≡◌, ℕ, suc, ◌+◌, List, [], ◌++◌, Some, None, sym, refl, ap, ◌∙◌}
+use Rattle.std.proofs.Common.{◌≡◌, ℕ, suc, ◌+◌, List, ◌++◌, Some, None, sym, refl, ap, ◌∙◌}
 use Rattle.fold.specs.Fold as fold
 use Rattle.requests.specs.Meaning.{Asked, asked, answered}
 use Rattle.requests.specs.Row.{call_at}

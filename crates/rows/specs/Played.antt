@@ -1,5 +1,5 @@
 -- What a row of calls prints. Assumes nothing.
-use Rattle.std.specs.Prelude.{ℕ, zero, suc, ◌+◌, ◌-◌, ◌/◌, List, [], ◌++◌, length, drop, Some, None, codes, decimal, Option}
+use Rattle.std.specs.Prelude.{ℕ, zero, suc, ◌+◌, ◌/◌, List, [], ◌++◌, length, drop, Some, None, codes, decimal, Option}
 use Rattle.fold.specs.Fold as fold
 use Rattle.requests.specs.Meaning.{Asked, asked, seen_sizes}
 use Rattle.requests.specs.Ranges.{sizes_of, sizes_refusal}

@@ -1,4 +1,6 @@
 // A whole row of calls, from the bytes that say it to the lines that it prints.
+#![tactic(auto)]
+
 ghost use Rattle.std.specs.Prelude.{◌≡◌, ◌/◌, ◌++◌, length, drop, IfOk, string_bytes, codes, OnOk};
 ghost use Rattle.requests.specs.Meaning.{answered, seen_sizes};
 ghost use Rattle.requests.specs.Ranges.{sizes_refusal};

@@ -1,4 +1,6 @@
 // Plays the row of calls on standard input, and prints what each is answered.
+#![tactic(auto)]
+
 use anyhow::anyhow;
 use std::io::{Read, Write};
 

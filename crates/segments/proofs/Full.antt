@@ -6,9 +6,8 @@ use Rattle.disk.specs.declared.registers.Taken.{Taken}
 use Rattle.disk.specs.Whole.{Choice, Whole, take_frame, taken_by}
 use Rattle.disk.proofs.Taking.{none_only_if_full}
 use Rattle.copies.specs.Laws.{UsedUp}
-use Rattle.segments.specs.declared.make.Made.{Made}
 use Rattle.segments.specs.Make.{made_by, make_of, make_segment}
-use Rattle.segments.specs.Full.{NoRoom, MakeFull, MakeFullExactly}
+use Rattle.segments.specs.Full.{MakeFullExactly}
 
 module _ (choose : Choice) (frames : ℕ) (w : Whole) (p v : ℕ) where
   not_made : (u : Whole) (s : ℕ) (t : Option Taken) → (made_by frames u p v s t).1 ≡ None → (t ≡ None) × ((made_by frames u p v s t).0 ≡ u)

@@ -1,5 +1,5 @@
 -- When a segment cannot be made, whatever the choice of the frame. Assumes nothing.
-use Rattle.std.specs.Prelude.{◌≡◌, ℕ, ◌⊎◌, Some, None}
+use Rattle.std.specs.Prelude.{◌≡◌, ℕ, ◌⊎◌, None}
 use Rattle.frames.specs.Counts.{lowest_free}
 use Rattle.disk.specs.Whole.{Choice, Whole}
 use Rattle.copies.specs.Laws.{UsedUp}

@@ -1,5 +1,5 @@
 -- A segment is made. Assumes nothing.
-use Rattle.std.specs.Prelude.{ℕ, false, List, replicate, Some, None, Option, slice_set}
+use Rattle.std.specs.Prelude.{ℕ, replicate, Some, None, Option, slice_set}
 use Rattle.frames.specs.Counts.{counted_up, lowest_free}
 use Rattle.tables.specs.State.{State, with_counts, with_pages}
 use Rattle.disk.specs.declared.registers.Taken.{Taken}

@@ -1,5 +1,5 @@
 -- A page that is loaded, or a segment that is stored to, is reached in a frame. Assumes nothing.
-use Rattle.std.specs.Prelude.{ℕ, List, Some, None, Option}
+use Rattle.std.specs.Prelude.{ℕ, Some, None, Option}
 use Rattle.frames.specs.Cut.{stored}
 use Rattle.tables.specs.State.{Spot, nowhere, blank, lies, walk, with_pages}
 use Rattle.disk.specs.declared.registers.Taken.{Taken}

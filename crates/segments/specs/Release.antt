@@ -1,5 +1,5 @@
 -- A page looks at a segment, and a page of any kind is dropped. Assumes nothing.
-use Rattle.std.specs.Prelude.{ℕ, Bool, true, false, cond, List, ◌==◌, slice_index, slice_index_or, slice_set}
+use Rattle.std.specs.Prelude.{ℕ, false, cond, List, ◌==◌, slice_index, slice_index_or, slice_set}
 use Rattle.frames.specs.Counts.{counted_down, counted_up}
 use Rattle.tables.specs.Cells.{Held, Cell, none, nothing, zeros, at, segment}
 use Rattle.tables.specs.Rows.{entry_of, with_entry}

@@ -5,7 +5,7 @@ use Rattle.std.proofs.lemmas.Bool.{cases_lt}
 use Rattle.lookaside.specs.declared.slots.Slot.{Slot}
 use Rattle.fold.specs.Fold.{Sizes, absent, nobody, process, others, begin}
 use Rattle.fold.proofs.Reach.{all_same, others_gone, others_length, begin_absent}
-use Rattle.tables.specs.Cells.{Held, Cell, none, nothing, segment}
+use Rattle.tables.specs.Cells.{Held, Cell, none, nothing}
 use Rattle.tables.specs.Rows.{entry_of}
 use Rattle.disk.specs.Follows.{names}
 use Rattle.calls.specs.Machine.{living, first}

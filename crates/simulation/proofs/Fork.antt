@@ -2,7 +2,7 @@
 use Rattle.std.proofs.Common.{◌≡◌, ℕ, zero, suc, ◌<◌, ◌≤◌, Bool, true, false, cond, not, leb, ◌≢◌, List, length, get_or, set, replicate, Some, None, Option, sym, refl, ap, ◌∙◌, subst, inl, inr, arith}
 use Rattle.std.proofs.lemmas.List.{length-set, length-replicate, get_or-set_same, get_or-set_other, set-set, ext_get_or}
 use Rattle.std.proofs.lemmas.Bool.{cases_eq, cond-true, cond-false, both_ways, le-leb, lt-leb}
-use Rattle.fold.specs.Fold.{Page, Process, Sizes, World, absent, seen, process, page, with_page, with_process, Answer, call, fork, done, full, first_free}
+use Rattle.fold.specs.Fold.{Page, Process, Sizes, World, absent, process, page, with_page, with_process, Answer, call, fork, done, full, first_free}
 use Rattle.fold.proofs.Pages.{page_of, page_is, page_with_process, process_either, process_put, process_other, with_page_is}
 use Rattle.fold.proofs.Reach.{all_same}
 use Rattle.frames.specs.Cut.{row}

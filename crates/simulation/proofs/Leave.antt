@@ -6,7 +6,7 @@ use Rattle.fold.proofs.Pages.{page_put, page_with_page, with_page_is}
 use Rattle.fold.proofs.Sums.{stands}
 use Rattle.disk.specs.Whole.{Choice}
 use Rattle.calls.specs.Machine.{Machine, living}
-use Rattle.calls.specs.Calls.{calls_by, changed, gone, with_alive}
+use Rattle.calls.specs.Calls.{calls_by, gone, with_alive}
 use Rattle.calls.specs.Pages.{dropped_row}
 use Rattle.simulation.proofs.Sim.{Sim, SlotsTrue, state}
 use Rattle.simulation.proofs.Step.{Step, step_by, by_test, changed_true}

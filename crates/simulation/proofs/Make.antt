@@ -3,11 +3,11 @@ use Rattle.std.proofs.Common.{◌≡◌, ℕ, ◌+◌, ◌<◌, Bool, true, fals
 use Rattle.std.proofs.lemmas.List.{length-set, get_or-set_same, get_or-set_other}
 use Rattle.std.proofs.lemmas.List.Sums.{sum_by-set}
 use Rattle.std.proofs.lemmas.Bool.{cases_eq, cases_lt, cond-true, cond-false, ne_eqb, le-leb, lt-leb, or_left, or_right, or_from, eq-eqb}
-use Rattle.fold.specs.Fold.{Sizes, World, Answer, seen, there, with_page, call, make, done, full, held, lookers, first_segment}
+use Rattle.fold.specs.Fold.{Sizes, World, Answer, seen, with_page, call, make, done, full, held, first_segment}
 use Rattle.frames.specs.Counts.{counted_up, lowest_free}
 use Rattle.frames.proofs.Lowest.{lowest_is_free}
 use Rattle.frames.specs.Cut.{row}
-use Rattle.tables.specs.Cells.{Cell, none, nothing, at, segment}
+use Rattle.tables.specs.Cells.{Cell, none, nothing, segment}
 use Rattle.disk.specs.declared.registers.Taken.{Taken}
 use Rattle.disk.specs.Whole.{Choice, Whole, take_frame}
 use Rattle.disk.specs.Follows.{names}

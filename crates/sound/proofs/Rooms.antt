@@ -1,6 +1,6 @@
 -- Memory that is not refused is long enough.
-use Rattle.std.proofs.Common.{◌≡◌, ℕ, ◌*◌, Bool, true, false, cond, ◌&&◌, leb, length, is_some, Some, None, Option, sym, refl, ◌∙◌}
-use Rattle.std.proofs.lemmas.Bool.{and_parts, cases_Bool, cond-false, leb-true, true≢false}
+use Rattle.std.proofs.Common.{◌≡◌, Bool, true, false, cond, is_some, Some, None, Option, refl}
+use Rattle.std.proofs.lemmas.Bool.{and_parts, leb-true, true≢false}
 use Rattle.requests.specs.Ranges.{ranged, sizes_refusal}
 use Rattle.requests.specs.Refusals.{either_refusal}
 use Rattle.requests.specs.declared.answer.Refusal.{Refusal}

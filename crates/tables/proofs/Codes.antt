@@ -1,11 +1,11 @@
 -- An entry and its number: what was coded is read again.
-use Rattle.std.proofs.Common.{◌≡◌, ℕ, ◌+◌, ◌*◌, ◌/◌, ◌%◌, ◌<◌, Bool, true, false, cond, ◌&&◌, eqb, ltb, sym, refl, ap, ◌∙◌, arith}
+use Rattle.std.proofs.Common.{◌≡◌, ℕ, ◌+◌, ◌*◌, ◌/◌, ◌%◌, ◌<◌, Bool, true, false, cond, eqb, refl, ap, ◌∙◌, arith}
 use Rattle.std.proofs.lemmas.Bool.{cond-true, lt-ltb, eq-eqb, ne_eqb}
 use Rattle.tables.specs.declared.entry.Entry.{Entry}
 use Rattle.tables.specs.declared.entry.Limits.{Limits}
 use Rattle.tables.specs.declared.entry.Target.{Target}
 use Rattle.tables.specs.declared.entry.Target.TheVariants.{Absent, Zero, Frame, Place, Segment}
-use Rattle.tables.specs.Cells.{Cell, cell, Within, Few, kind_of, index_of, encoded, named, decoded}
+use Rattle.tables.specs.Cells.{cell, Within, Few, kind_of, index_of, encoded, named, decoded}
 
 -- a number's digits: index, kind, mark
 mark_read : (i k : ℕ) (m : Bool) → eqb ((i * 10 + k * 2 + cond m 1 0) % 2) 1 ≡ m

@@ -1,6 +1,6 @@
 -- One space of locations: what stands at a frame or a place, and what a change of one of the two lists makes of the whole. Serves counts and
 -- pages alike.
-use Rattle.std.proofs.Common.{◌≡◌, ℕ, ◌+◌, ◌-◌, ◌<◌, ◌≤◌, List, ◌++◌, length, get_or, set, sym, refl, ap, ◌∙◌, arith}
+use Rattle.std.proofs.Common.{◌≡◌, ℕ, ◌+◌, ◌-◌, ◌<◌, List, ◌++◌, length, get_or, set, sym, ap, ◌∙◌, arith}
 use Rattle.std.proofs.lemmas.List.{get_or_append_left, get_or-append_right, set-append_left, set-append_right}
 
 module _ {X : Type 0} (frames places : List X) (n : ℕ) (e : length frames ≡ n) where

@@ -1,9 +1,8 @@
 -- One changed list changes the view in one place.
-use Rattle.std.proofs.Common.{◌≡◌, ℕ, ◌+◌, ◌<◌, List, ◌++◌, length, set, sym, refl, ap, ◌∙◌}
+use Rattle.std.proofs.Common.{◌++◌, ap, ◌∙◌}
 use Rattle.frames.specs.Cut.{cut}
 use Rattle.frames.proofs.Cut.{cut_length}
-use Rattle.tables.specs.declared.entry.Limits.{Limits}
-use Rattle.tables.specs.State.{Lent, Fit, view, with_counts, with_pages, with_rows, ViewFollows, ViewLaws}
+use Rattle.tables.specs.State.{view, with_counts, with_pages, with_rows, ViewLaws}
 use Rattle.tables.proofs.Locations.{put_frame, put_place}
 
 pub view_laws : ViewLaws

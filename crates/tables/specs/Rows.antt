@@ -1,5 +1,5 @@
 -- A table as the rows of its processes. Assumes nothing.
-use Rattle.std.specs.Prelude.{ℕ, zero, suc, List, [], ◌∷◌, map, replicate, slice_index_or, slice_set}
+use Rattle.std.specs.Prelude.{ℕ, zero, suc, List, map, replicate, slice_index_or, slice_set}
 use Rattle.frames.specs.Cut.{cut, row}
 use Rattle.tables.specs.declared.entry.Limits.{Limits}
 use Rattle.tables.specs.Cells.{Cell, none, decoded, marked}

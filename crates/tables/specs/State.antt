@@ -1,5 +1,5 @@
 -- What all lent memory means: one space of locations, frames first and then places. Assumes nothing.
-use Rattle.std.specs.Prelude.{◌≡◌, ℕ, ◌+◌, ◌*◌, ◌<◌, Bool, true, false, List, [], ◌∷◌, ◌++◌, length, nat_le, slice_index, slice_index_or, slice_set}
+use Rattle.std.specs.Prelude.{◌≡◌, ℕ, ◌+◌, ◌*◌, ◌<◌, Bool, true, false, List, ◌++◌, length, nat_le, slice_index, slice_index_or, slice_set}
 use Rattle.frames.specs.Cut.{cut}
 use Rattle.tables.specs.declared.entry.Limits.{Limits}
 use Rattle.tables.specs.declared.walk.Found.{Found}

@@ -1,9 +1,7 @@
-use Rattle.std.proofs.Common.{◌≡◌, ℕ, suc, ◌+◌, ◌-◌, List, [], ◌++◌, string_bytes, sym, refl, ap, ◌∙◌, subst, arith}
+use Rattle.std.proofs.Common.{◌≡◌, suc, ◌+◌, ◌-◌, ◌++◌, string_bytes, sym, ap, ◌∙◌, arith}
 use Rattle.std.proofs.lemmas.List.{append_assoc, append-nil}
-use Rattle.fold.specs.Fold as fold
 use Rattle.requests.specs.Meaning.{seen_sizes, asked, answered}
 use Rattle.requests.specs.declared.sizes.Sizes.{Sizes}
-use Rattle.calls.specs.Machine as rule
 use Rattle.calls.specs.Memory.{serve}
 use Rattle.machine.specs.declared.machine.Machine.{Machine}
 use Rattle.machine.specs.Owned.{model}

@@ -1,13 +1,13 @@
-use Rattle.std.proofs.Common.{◌≡◌, List, sym, refl, ap, ◌∙◌, arith}
+use Rattle.std.proofs.Common.{sym, ◌∙◌, arith}
 use Rattle.fold.specs.Fold as fold
 use Rattle.frames.specs.Turn.{turn}
 use Rattle.requests.specs.Meaning.{seen_sizes}
-use Rattle.requests.specs.declared.answer.Answer.TheVariants.{Done, Fault}
+use Rattle.requests.specs.declared.answer.Answer.TheVariants.{Fault}
 use Rattle.tables.specs.State.{view}
 use Rattle.tables.proofs.Rows.{row_within}
 use Rattle.disk.specs.Moves.{lent}
 use Rattle.segments.specs.Release.{dropped}
-use Rattle.calls.specs.Memory.{limits_of, machine}
+use Rattle.calls.specs.Memory.{machine}
 use Rattle.calls.proofs.Serving.{meant, refused, settled_machine}
 use Rattle.calls.proofs.Ways.{drop_fault, drop_goes}
 use Rattle.calls.proofs.entries.drop_page.Goals as goal

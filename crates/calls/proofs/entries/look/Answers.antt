@@ -1,8 +1,8 @@
-use Rattle.std.proofs.Common.{◌≡◌, ℕ, List, sym, refl, ap, ◌∙◌, arith}
+use Rattle.std.proofs.Common.{◌≡◌, ℕ, sym, refl, ap, ◌∙◌, arith}
 use Rattle.fold.specs.Fold as fold
 use Rattle.frames.specs.Turn.{turn}
 use Rattle.requests.specs.Meaning.{seen_sizes}
-use Rattle.requests.specs.declared.answer.Answer.TheVariants.{Done, Fault}
+use Rattle.requests.specs.declared.answer.Answer.TheVariants.{Fault}
 use Rattle.tables.specs.declared.entry.Target.{Target}
 use Rattle.tables.specs.declared.entry.Target.TheVariants.{Absent, Zero, Frame, Place, Segment}
 use Rattle.tables.specs.Cells.{held_of}
@@ -12,7 +12,7 @@ use Rattle.disk.specs.Moves.{lent}
 use Rattle.segments.specs.Release.{looked}
 use Rattle.calls.specs.Calls.{look_at}
 use Rattle.calls.specs.Machine.{Machine}
-use Rattle.calls.specs.Memory.{limits_of, machine}
+use Rattle.calls.specs.Memory.{machine}
 use Rattle.calls.proofs.Serving.{few_limits, meant, refused, settled_machine}
 use Rattle.calls.proofs.Ways.{look_goes, look_not_absent, look_not_inside}
 use Rattle.calls.proofs.entries.look.Goals as goal

@@ -1,8 +1,8 @@
-use Rattle.std.proofs.Common.{◌≡◌, List, sym, refl, ap, ◌∙◌, arith}
+use Rattle.std.proofs.Common.{◌≡◌, sym, ◌∙◌, arith}
 use Rattle.fold.specs.Fold as fold
 use Rattle.frames.specs.Turn.{turn}
 use Rattle.requests.specs.Meaning.{seen_sizes}
-use Rattle.requests.specs.declared.answer.Answer.TheVariants.{Done, Fault}
+use Rattle.requests.specs.declared.answer.Answer.TheVariants.{Fault}
 use Rattle.tables.specs.State.{view, with_rows}
 use Rattle.tables.proofs.Rows.{row_within}
 use Rattle.disk.specs.Moves.{lent}

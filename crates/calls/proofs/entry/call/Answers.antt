@@ -1,9 +1,8 @@
-use Rattle.std.proofs.Common.{◌≡◌, ℕ, ◌-◌, ◌*◌, ◌≤◌, List, length, take, drop, sym, refl, ap, ◌∙◌, subst}
+use Rattle.std.proofs.Common.{◌≡◌, ◌-◌, ◌*◌, take, drop, sym, ◌∙◌, subst}
 use borrow.Rule.Slice.PartMut.{put_mid}
 use Rattle.requests.specs.Meaning.{asked}
 use Rattle.tables.specs.State.{Lent}
 use Rattle.disk.specs.Moves.{lent}
-use Rattle.calls.specs.declared.manager.Manager.{Manager}
 use Rattle.calls.specs.Entry.{cut_lent, entry_refusal, rest_lent}
 use Rattle.calls.specs.Memory.{Served}
 use Rattle.calls.proofs.Entering.{called_answered, called_refused, part, part_after, part_rest}

@@ -1,4 +1,4 @@
-use Rattle.std.proofs.Common.{◌≡◌, ℕ, suc, ◌+◌, List, sym, refl, ap, ◌∙◌, add-one, arith}
+use Rattle.std.proofs.Common.{◌≡◌, sym, refl, ap, ◌∙◌, add-one, arith}
 use Rattle.tables.specs.State.{State, view}
 use Rattle.tables.proofs.Rows.{row_within}
 use Rattle.disk.specs.Moves.{lent}

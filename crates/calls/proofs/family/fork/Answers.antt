@@ -1,4 +1,4 @@
-use Rattle.std.proofs.Common.{◌≡◌, ℕ, ◌<◌, true, List, Some, None, Option, sym, refl, ap, ◌∙◌, subst, arith, MatchOption}
+use Rattle.std.proofs.Common.{◌≡◌, ◌<◌, true, sym, ap, ◌∙◌, subst, arith}
 use Rattle.fold.specs.Fold as fold
 use Rattle.frames.specs.Turn.{turn}
 use Rattle.requests.specs.Meaning.{seen_sizes}
@@ -9,9 +9,8 @@ use Rattle.tables.proofs.Rows.{row_within}
 use Rattle.disk.specs.Moves.{lent}
 use Rattle.calls.specs.declared.manager.Manager.{Manager}
 use Rattle.calls.specs.Calls.{fork_to, with_alive}
-use Rattle.calls.specs.Machine.{Machine}
-use Rattle.calls.specs.Memory.{limits_of, machine}
-use Rattle.calls.specs.Pages.{forked, raised_row}
+use Rattle.calls.specs.Memory.{machine}
+use Rattle.calls.specs.Pages.{forked}
 use Rattle.calls.proofs.Serving.{few_limits, meant, no_some, refused, settled_machine, with_alive_machine}
 use Rattle.calls.proofs.Ways.{fork_fault, fork_goes}
 use Rattle.calls.proofs.family.fork.Goals as goal

@@ -1,6 +1,5 @@
 use Rattle.std.proofs.Common.{◌≡◌, ℕ, ◌+◌, min, List, ◌++◌, length, get_or, set, sym, ap, ◌∙◌, subst}
 use Rattle.frames.specs.Counts.{counted_up}
-use Rattle.frames.specs.Cut.{cut}
 use Rattle.tables.specs.declared.entry.Target.{Target}
 use Rattle.tables.specs.Cells.{held_of, Within}
 use Rattle.tables.specs.State.{view, with_counts}

@@ -1,8 +1,6 @@
-use Rattle.std.proofs.Common.{◌≡◌, ℕ, suc, ◌+◌, List, sym, refl, ap, ◌∙◌, add-one, arith}
-use Rattle.tables.specs.Cells.{Held}
-use Rattle.tables.specs.State.{State, view}
+use Rattle.std.proofs.Common.{◌≡◌, sym, refl, ap, ◌∙◌, add-one, arith}
+use Rattle.tables.specs.State.{view}
 use Rattle.disk.specs.Moves.{lent}
-use Rattle.calls.specs.Memory.{limits_of}
 use Rattle.calls.specs.Pages.{raised, raised_row}
 use Rattle.calls.proofs.Serving.{meant}
 use Rattle.calls.proofs.family.raise_row.Goals as goal

@@ -1,14 +1,13 @@
-use Rattle.std.proofs.Common.{◌≡◌, ℕ, ◌+◌, ◌-◌, ◌<◌, Bool, List, sym, refl, ap, ◌∙◌, subst, arith}
+use Rattle.std.proofs.Common.{◌≡◌, ◌+◌, ◌-◌, sym, refl, ap, ◌∙◌, subst, arith}
 use Rattle.std.proofs.lemmas.Bool.{cond-true, cond-false, lt-ltb, le-ltb}
 use Rattle.fold.specs.Fold as fold
 use Rattle.frames.specs.Turn.{turn}
 use Rattle.tables.specs.declared.walk.Lies.{Lies}
 use Rattle.tables.specs.Found.{LiesWithin}
-use Rattle.tables.specs.State.{Spot, Walked, spot_of, view, walk}
+use Rattle.tables.specs.State.{Walked, spot_of, view}
 use Rattle.tables.proofs.Rows.{row_within}
-use Rattle.disk.specs.declared.registers.Taken.{Taken}
 use Rattle.disk.specs.Moves.{lent}
-use Rattle.disk.specs.Whole.{Whole, bring_in, whole}
+use Rattle.disk.specs.Whole.{bring_in}
 use Rattle.calls.specs.Calls.{load_reached, load_walked}
 use Rattle.calls.specs.Machine.{Machine}
 use Rattle.calls.specs.Memory.{limits_of, machine}

@@ -1,6 +1,5 @@
-use Rattle.std.proofs.Common.{◌≡◌, ℕ, ◌-◌, ◌*◌, ◌≤◌, List, sym, refl, ap, ◌∙◌}
+use Rattle.std.proofs.Common.{◌≡◌, ◌-◌, ◌*◌, sym, ◌∙◌}
 use borrow.Rule.Slice.PartMut.{put_mid}
-use Rattle.tables.specs.State.{Lent}
 use Rattle.disk.specs.Moves.{lent}
 use Rattle.calls.specs.Entry.{cut_lent, entry_refusal, rest_lent}
 use Rattle.calls.proofs.Entering.{part_after, part_rest}

@@ -1,9 +1,7 @@
-use Rattle.std.proofs.Common.{List, refl}
+use Rattle.std.proofs.Common.{refl}
 use Rattle.tables.specs.State.{view}
 use Rattle.disk.specs.Moves.{lent}
-use Rattle.disk.specs.Whole.{Whole, whole}
-use Rattle.calls.specs.Calls.{changed}
-use Rattle.calls.specs.Machine.{Machine, with_whole}
+use Rattle.calls.specs.Machine.{with_whole}
 use Rattle.calls.specs.Memory.{machine}
 use Rattle.calls.proofs.page.settle.Goals as goal
 

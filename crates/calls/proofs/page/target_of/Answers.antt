@@ -1,5 +1,4 @@
-use Rattle.std.proofs.Common.{sym, ap, ◌∙◌, arith}
-use Rattle.tables.specs.Cells.{Cell}
+use Rattle.std.proofs.Common.{arith}
 use Rattle.tables.proofs.Rows.{row_within}
 use Rattle.calls.proofs.page.target_of.Goals as goal
 

@@ -1,4 +1,4 @@
-use Rattle.std.proofs.Common.{◌≡◌, ℕ, ◌<◌, List, Some, None, Option, sym, refl, ap, ◌∙◌, arith}
+use Rattle.std.proofs.Common.{sym, refl, ap, ◌∙◌, arith}
 use Rattle.fold.specs.Fold as fold
 use Rattle.frames.specs.Turn.{turn}
 use Rattle.requests.specs.Meaning.{seen_sizes}
@@ -6,9 +6,7 @@ use Rattle.requests.specs.declared.answer.Answer.TheVariants.{Fault}
 use Rattle.tables.specs.State.{view}
 use Rattle.disk.specs.Moves.{lent}
 use Rattle.disk.specs.Whole.{whole}
-use Rattle.segments.specs.declared.make.Made.{Made}
 use Rattle.calls.specs.Calls.{made}
-use Rattle.calls.specs.Machine.{Machine, with_whole}
 use Rattle.calls.specs.Memory.{limits_of, machine}
 use Rattle.calls.proofs.Serving.{few_limits, refused}
 use Rattle.calls.proofs.Ways.{make_fault, make_goes}

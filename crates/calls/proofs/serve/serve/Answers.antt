@@ -1,7 +1,6 @@
-use Rattle.std.proofs.Common.{◌≡◌, ℕ, List, sym, refl, ap, ◌∙◌}
+use Rattle.std.proofs.Common.{ap}
 use Rattle.fold.specs.Fold as fold
 use Rattle.requests.specs.Meaning.{asked}
-use Rattle.requests.specs.declared.request.Call.{Call}
 use Rattle.tables.specs.State.{view}
 use Rattle.disk.specs.Moves.{lent}
 use Rattle.calls.proofs.Serving.{of_call}

@@ -1,8 +1,8 @@
-use Rattle.std.proofs.Common.{◌≡◌, ℕ, List, sym, refl, ap, ◌∙◌}
+use Rattle.std.proofs.Common.{refl}
 use Rattle.fold.specs.Fold as fold
 use Rattle.tables.specs.State.{view, with_pages}
 use Rattle.disk.specs.Moves.{lent}
-use Rattle.disk.specs.Whole.{Whole, with_used}
+use Rattle.disk.specs.Whole.{with_used}
 use Rattle.copies.specs.Own.{with_state}
 use Rattle.calls.specs.Machine.{with_whole}
 use Rattle.calls.specs.Memory.{machine}

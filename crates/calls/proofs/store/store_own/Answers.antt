@@ -1,8 +1,7 @@
-use Rattle.std.proofs.Common.{◌≡◌, ℕ, ◌<◌, List, IfSome, Some, None, Option, sym, refl, ap, ◌∙◌, subst, arith}
-use Rattle.fold.specs.Fold as fold
+use Rattle.std.proofs.Common.{◌<◌, IfSome, Option, sym, refl, ap, ◌∙◌, subst, arith}
 use Rattle.tables.specs.State.{view}
 use Rattle.disk.specs.Moves.{lent}
-use Rattle.disk.specs.Whole.{Whole, whole}
+use Rattle.disk.specs.Whole.{whole}
 use Rattle.copies.specs.declared.anew.Written.{Written}
 use Rattle.calls.specs.Calls.{own_stored}
 use Rattle.calls.specs.Memory.{limits_of, machine}

@@ -1,4 +1,4 @@
-use Rattle.std.proofs.Common.{◌≡◌, ℕ, ◌<◌, ◌⊎◌, List, sym, refl, ap, ◌∙◌, subst, inl, inr}
+use Rattle.std.proofs.Common.{sym, refl, ap, ◌∙◌, inl, inr}
 use Rattle.fold.specs.Fold as fold
 use Rattle.frames.specs.Turn.{turn}
 use Rattle.tables.specs.declared.entry.Target.{Target}

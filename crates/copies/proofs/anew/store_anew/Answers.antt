@@ -1,4 +1,4 @@
-use Rattle.std.proofs.Common.{◌≡◌, List, arith}
+use Rattle.std.proofs.Common.{◌≡◌, arith}
 use Rattle.tables.specs.Rows.{entry_of, rows}
 use Rattle.tables.specs.State.{view}
 use Rattle.tables.proofs.Rows.{row_within}

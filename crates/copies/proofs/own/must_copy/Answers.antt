@@ -1,4 +1,4 @@
-use Rattle.std.proofs.Common.{◌≡◌, ltb, ◌++◌, sym, ap, ◌∙◌, subst}
+use Rattle.std.proofs.Common.{ltb, ◌++◌, sym, ap, ◌∙◌, subst}
 use Rattle.tables.specs.declared.entry.Target.{Target}
 use Rattle.tables.specs.Cells.{held_of, Within}
 use Rattle.tables.proofs.Locations.{at_frame, at_place}

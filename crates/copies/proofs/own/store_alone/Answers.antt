@@ -1,4 +1,4 @@
-use Rattle.std.proofs.Common.{◌≡◌, ◌+◌, ◌*◌, ◌≤◌, length, sym, ap, ◌∙◌, subst, arith}
+use Rattle.std.proofs.Common.{subst, arith}
 use Rattle.tables.specs.Cells.{Within}
 use Rattle.tables.proofs.Rows.{row_within}
 use Rattle.copies.proofs.own.store_alone.Goals as goal

@@ -1,13 +1,12 @@
-use Rattle.std.proofs.Common.{◌≡◌, ℕ, ◌+◌, ◌<◌, List, [], ◌++◌, length, set, sym, refl, ap, ◌∙◌, arith}
-use Rattle.std.proofs.lemmas.List.{length-set}
+use Rattle.std.proofs.Common.{◌≡◌, [], ◌++◌, length, set, sym, ap, ◌∙◌, arith}
 use Rattle.frames.specs.Counts.{counted_down, counted_up}
 use Rattle.frames.specs.Cut.{cut, row, stored}
 use Rattle.frames.proofs.Cut.{cut_length}
 use Rattle.tables.specs.Rows.{cells}
 use Rattle.tables.specs.State.{view}
-use Rattle.tables.proofs.Locations.{at_frame, at_place, put_frame}
-use Rattle.copies.specs.Stores.{copy_stored, stored_in_place}
-use Rattle.copies.proofs.Parts.{up_frame, down_frame, down_place, put_then_store}
+use Rattle.tables.proofs.Locations.{at_place, put_frame}
+use Rattle.copies.specs.Stores.{copy_stored}
+use Rattle.copies.proofs.Parts.{up_frame, down_place, put_then_store}
 use Rattle.copies.proofs.stores.copy_from_place.Goals as goal
 
 pub returns : goal.returns

@@ -1,4 +1,4 @@
-use Rattle.std.proofs.Common.{◌≡◌, ℕ, ◌<◌, List, ◌++◌, length, set, replicate, sym, refl, ap, ◌∙◌, arith}
+use Rattle.std.proofs.Common.{◌≡◌, ◌++◌, length, set, replicate, ap, ◌∙◌, arith}
 use Rattle.frames.specs.Cut.{cut, stored}
 use Rattle.frames.proofs.Cut.{cut_length}
 use Rattle.tables.specs.Rows.{cells}

@@ -1,4 +1,3 @@
-use Rattle.tables.specs.State.{view}
 use Rattle.disk.specs.declared.registers.Registers.{Registers}
 use Rattle.disk.specs.declared.registers.Transfers.{Transfers}
 use Rattle.disk.specs.Counted.{counted}

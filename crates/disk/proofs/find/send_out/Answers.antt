@@ -1,4 +1,4 @@
-use Rattle.std.proofs.Common.{◌≡◌, ◌+◌, List, sym, refl, ap, ◌∙◌, arith}
+use Rattle.std.proofs.Common.{◌≡◌, ◌+◌, sym, refl, ap, ◌∙◌, arith}
 use Rattle.frames.specs.Turn.{Turned, turn}
 use Rattle.tables.specs.State.{view}
 use Rattle.disk.specs.declared.registers.Registers.{Registers}

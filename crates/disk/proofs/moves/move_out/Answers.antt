@@ -1,4 +1,4 @@
-use Rattle.std.proofs.Common.{◌+◌, List, [], ◌++◌, length, refl, ap, ◌∙◌}
+use Rattle.std.proofs.Common.{◌+◌, [], ◌++◌, refl, ap, ◌∙◌}
 use Rattle.frames.specs.Cut.{cut}
 use Rattle.frames.proofs.Cut.{cut_length}
 use Rattle.tables.specs.State.{view}

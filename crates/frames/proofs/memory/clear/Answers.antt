@@ -1,8 +1,8 @@
-use Rattle.std.proofs.Common.{◌≡◌, ℕ, ◌+◌, ◌-◌, ◌*◌, List, replicate, ap, ◌∙◌}
+use Rattle.std.proofs.Common.{◌≡◌, ℕ, ◌+◌, ◌-◌, ◌*◌, replicate, ap, ◌∙◌}
 use borrow.Rule.Slice.PartMut.{put_mid}
 use Rattle.std.proofs.lemmas.List.{length-replicate}
 use Rattle.frames.specs.Cut.{pages}
-use Rattle.frames.proofs.Pages.{page_put, part, part_length}
+use Rattle.frames.proofs.Pages.{page_put, part_length}
 use Rattle.frames.proofs.memory.clear.Goals as goal
 
 pub returns : goal.returns

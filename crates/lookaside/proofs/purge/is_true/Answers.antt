@@ -1,4 +1,4 @@
-use Rattle.std.proofs.Common.{◌≡◌, ◌≤◌, ◌⊎◌, ◌++◌, sym, ap, inl, inr, ⊎_elim, arith}
+use Rattle.std.proofs.Common.{◌++◌, sym, ap, inl, inr, ⊎_elim, arith}
 use Rattle.tables.specs.Cells.{Cell}
 use Rattle.tables.specs.Rows.{cells}
 use Rattle.tables.specs.State.{walked}

@@ -1,4 +1,4 @@
-use Rattle.std.proofs.Common.{◌≡◌, ℕ, Option, sym, refl, ap, ◌∙◌, arith}
+use Rattle.std.proofs.Common.{ℕ, Option, ap, ◌∙◌, arith}
 use Rattle.frames.specs.Turn.{turn}
 use Rattle.tables.specs.State.{view}
 use Rattle.disk.specs.Moves.{lent}

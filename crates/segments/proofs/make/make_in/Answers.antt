@@ -1,8 +1,7 @@
-use Rattle.std.proofs.Common.{◌≡◌, List, ◌++◌, length, set, replicate, sym, ap, ◌∙◌}
+use Rattle.std.proofs.Common.{◌++◌, replicate, ap, ◌∙◌}
 use Rattle.frames.specs.Cut.{cut}
 use Rattle.frames.proofs.Cut.{cut_length}
-use Rattle.tables.specs.Rows.{cells}
-use Rattle.tables.specs.State.{State, view, with_counts, with_pages}
+use Rattle.tables.specs.State.{view, with_counts, with_pages}
 use Rattle.tables.proofs.Locations.{put_frame}
 use Rattle.disk.specs.Moves.{lent}
 use Rattle.copies.proofs.Parts.{up_frame}

@@ -1,4 +1,4 @@
-use Rattle.std.proofs.Common.{◌≡◌, ℕ, ◌<◌, List, IfSome, Some, None, Option, sym, refl, ap, ◌∙◌, subst, arith}
+use Rattle.std.proofs.Common.{◌<◌, IfSome, Some, Option, sym, refl, ap, ◌∙◌, subst, arith}
 use Rattle.tables.specs.State.{view}
 use Rattle.tables.proofs.Rows.{row_within}
 use Rattle.disk.specs.declared.registers.Registers.{Registers}

@@ -1,9 +1,8 @@
-use Rattle.std.proofs.Common.{◌≡◌, ℕ, ◌+◌, ◌-◌, ◌<◌, ◌⊎◌, List, ◌++◌, Some, None, Option, sym, ap, ◌∙◌, subst, inl, inr, arith}
+use Rattle.std.proofs.Common.{◌≡◌, ◌+◌, ◌-◌, Some, sym, ap, ◌∙◌, subst, inl, inr, arith}
 use Rattle.std.proofs.lemmas.Bool.{cond-true, cond-false, lt-ltb, le-ltb}
 use Rattle.frames.specs.Turn.{turn}
-use Rattle.tables.specs.declared.walk.Lies.{Lies}
 use Rattle.tables.specs.Found.{LiesWithin}
-use Rattle.tables.specs.State.{Spot, Walked, lies, spot_of, view, walk}
+use Rattle.tables.specs.State.{Walked, spot_of, view}
 use Rattle.tables.proofs.Rows.{row_within}
 use Rattle.disk.specs.declared.registers.Taken.{Taken}
 use Rattle.disk.specs.Moves.{lent}

@@ -1,5 +1,5 @@
-use Rattle.std.proofs.Common.{◌≡◌, ℕ, ◌<◌, List, [], ◌++◌, length, set, IfSome, Some, None, Option, sym, ap, ◌∙◌, subst}
-use Rattle.frames.specs.Cut.{cut, row, stored}
+use Rattle.std.proofs.Common.{◌≡◌, ◌<◌, [], ◌++◌, length, set, IfSome, Some, Option, sym, ap, ◌∙◌, subst}
+use Rattle.frames.specs.Cut.{cut, row}
 use Rattle.frames.proofs.Cut.{cut_length}
 use Rattle.tables.specs.State.{view, with_pages}
 use Rattle.tables.proofs.Locations.{at_frame, put_frame}

@@ -1,8 +1,8 @@
-use Rattle.std.proofs.Common.{◌≡◌, List, sym, ap, ◌∙◌, subst}
+use Rattle.std.proofs.Common.{◌≡◌, sym, ap, ◌∙◌, subst}
 use Rattle.tables.specs.declared.entry.Entry.{Entry}
-use Rattle.tables.specs.Cells.{Held, Cell, cell, none, Within}
+use Rattle.tables.specs.Cells.{cell, none, Within}
 use Rattle.tables.specs.Rows.{rows, with_entry}
-use Rattle.tables.specs.State.{State, view, with_rows}
+use Rattle.tables.specs.State.{view, with_rows}
 use Rattle.disk.specs.Moves.{lent}
 use Rattle.segments.specs.Release.{dropped, unnamed}
 use Rattle.segments.proofs.release.drop_page.Goals as goal

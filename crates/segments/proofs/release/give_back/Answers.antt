@@ -1,9 +1,7 @@
-use Rattle.std.proofs.Common.{◌≡◌, List, get_or, set, sym, ap, ◌∙◌, subst, arith}
+use Rattle.std.proofs.Common.{◌≡◌, get_or, set, sym, ap, ◌∙◌, subst, arith}
 use Rattle.std.proofs.lemmas.List.{get_or-map}
 use Rattle.tables.specs.declared.entry.Entry.{Entry}
-use Rattle.tables.specs.declared.entry.Target.{Target}
-use Rattle.tables.specs.declared.entry.Target.TheVariants.{Absent}
-use Rattle.tables.specs.Cells.{Held, Cell, cell, decoded, held_of, none, Within}
+use Rattle.tables.specs.Cells.{Cell, cell, decoded, held_of, none, Within}
 use Rattle.tables.specs.Rows.{cells}
 use Rattle.tables.specs.State.{State, view}
 use Rattle.disk.specs.Moves.{lent}

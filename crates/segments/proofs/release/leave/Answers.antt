@@ -1,7 +1,7 @@
-use Rattle.std.proofs.Common.{◌≡◌, ℕ, List, get_or, sym, ap, ◌∙◌}
+use Rattle.std.proofs.Common.{◌≡◌, get_or, sym, ap, ◌∙◌}
 use Rattle.std.proofs.lemmas.Bool.{cond-true, cond-false, eq-eqb, ne_eqb}
 use Rattle.frames.specs.Counts.{counted_down}
-use Rattle.tables.specs.State.{State, view}
+use Rattle.tables.specs.State.{view}
 use Rattle.disk.specs.Moves.{lent}
 use Rattle.segments.specs.Release.{given_back, with_lookers}
 use Rattle.segments.proofs.release.leave.Goals as goal

@@ -1,4 +1,4 @@
-use Rattle.std.proofs.Common.{List, ◌++◌}
+use Rattle.std.proofs.Common.{◌++◌}
 use Rattle.frames.specs.Cut.{cut}
 use Rattle.tables.specs.Rows.{cells}
 use Rattle.tables.specs.State.{view}

@@ -1,5 +1,4 @@
-use Rattle.std.proofs.Common.{◌≡◌, List, ◌++◌, sym, ap, ◌∙◌, subst}
-use Rattle.frames.specs.Cut.{cut}
+use Rattle.std.proofs.Common.{◌++◌, sym, ap, ◌∙◌, subst}
 use Rattle.tables.specs.declared.entry.Target.{Target}
 use Rattle.tables.specs.Cells.{held_of, Within}
 use Rattle.tables.specs.State.{view, with_counts}

@@ -1,4 +1,4 @@
-use Rattle.std.proofs.Common.{◌≡◌, suc, ◌+◌, sym, refl, ap, ◌∙◌, add-one, arith}
+use Rattle.std.proofs.Common.{◌≡◌, sym, refl, ap, ◌∙◌, add-one, arith}
 use Rattle.tables.specs.Rows.{rows, shared_row, shared_entry}
 use Rattle.tables.proofs.table.copy_row.Goals as goal
 

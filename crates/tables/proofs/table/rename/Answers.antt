@@ -1,7 +1,7 @@
-use Rattle.std.proofs.Common.{◌≡◌, ◌+◌, ◌<◌, ◌≤◌, List, [], ◌++◌, map, length, get_or, take, drop, set, sym, ap, ◌∙◌, arith}
+use Rattle.std.proofs.Common.{◌+◌, ◌≤◌, ◌++◌, map, length, get_or, drop, set, sym, ap, ◌∙◌, arith}
 use Rattle.std.proofs.lemmas.List.Edits.{map_over_more}
 use Rattle.std.proofs.lemmas.List.{map-set, get_or-map, length-map, take_all, drop_all, append-nil}
-use Rattle.tables.specs.Cells.{Cell, decoded, renamed}
+use Rattle.tables.specs.Cells.{decoded, renamed}
 use Rattle.tables.specs.Rows.{cells}
 use Rattle.tables.proofs.table.rename.Goals as goal
 

@@ -1,5 +1,5 @@
-use Rattle.std.proofs.Common.{◌+◌, sym, ap, ◌∙◌}
-use Rattle.tables.specs.Cells.{Cell, decoded, renamed}
+use Rattle.std.proofs.Common.{◌+◌, ap, ◌∙◌}
+use Rattle.tables.specs.Cells.{decoded, renamed}
 use Rattle.tables.proofs.Codes.{decode_encode, small}
 use Rattle.tables.proofs.table.rename_code.Goals as goal
 

@@ -1,4 +1,4 @@
-use Rattle.std.proofs.Common.{◌≡◌, ◌≤◌, true, false, length, take, sym, ◌∙◌, arith}
+use Rattle.std.proofs.Common.{◌≤◌, false, length, take, sym, ◌∙◌, arith}
 use Rattle.std.proofs.lemmas.List.{get_or-take, get_or_past, length-take}
 use Rattle.std.proofs.lemmas.Bool.{ltb-true, le-ltb}
 use Rattle.calls.proofs.manager.Manager.is_alive.Goals as goal

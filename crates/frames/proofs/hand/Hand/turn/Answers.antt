@@ -1,5 +1,5 @@
-use Rattle.std.proofs.Common.{◌≡◌, ℕ, ◌+◌, ◌-◌, ◌<◌, List, length, set, sym, ap, ◌∙◌, arith}
-use Rattle.frames.specs.Turn.{Turned, turn_from, taken, next_frame}
+use Rattle.std.proofs.Common.{◌≡◌, ℕ, ◌+◌, ◌-◌, List, length, set, sym, ap, ◌∙◌, arith}
+use Rattle.frames.specs.Turn.{turn_from, taken, next_frame}
 use Rattle.frames.proofs.Turn.{turn_takes, turn_passes, turn_ends}
 use Rattle.frames.proofs.hand.Hand.turn.Goals as goal
 

@@ -1,9 +1,7 @@
-use Rattle.std.proofs.Common.{◌≡◌, ℕ, Bool, true, false, List, length, is_some, Ok, Err, vec_items, Option, sym, refl, ap, ◌∙◌, subst, arith}
+use Rattle.std.proofs.Common.{◌≡◌, ℕ, false, length, is_some, Ok, Err, vec_items, Option, sym, ap, ◌∙◌, subst, arith}
 use Rattle.std.specs.Vec.{with_items}
 use Rattle.std.proofs.lemmas.List.{with_items_is}
-use Rattle.fold.specs.Fold as fold
 use Rattle.requests.specs.Meaning.{answered, asked, seen_sizes}
-use Rattle.requests.specs.declared.answer.Answer.{Answer}
 use Rattle.requests.specs.declared.answer.Refusal.{Refusal}
 use Rattle.requests.specs.declared.sizes.Sizes.{Sizes}
 use Rattle.tables.specs.State.{Lent}

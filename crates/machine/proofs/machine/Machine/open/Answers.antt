@@ -1,9 +1,8 @@
-use Rattle.std.proofs.Common.{◌≡◌, ℕ, false, List, length, is_some, vec_items, Option, sym, refl, ap, ◌∙◌, subst}
+use Rattle.std.proofs.Common.{◌≡◌, length, is_some, vec_items, Option, sym, ap, ◌∙◌}
 use Rattle.std.specs.Vec.{with_items}
 use Rattle.std.proofs.lemmas.List.{with_items_is}
 use Rattle.requests.specs.declared.answer.Refusal.{Refusal}
 use Rattle.requests.specs.declared.sizes.Sizes.{Sizes}
-use Rattle.tables.specs.State.{Lent}
 use Rattle.disk.specs.Moves.{lent}
 use Rattle.calls.specs.Entry.{cut_lent, entry_refusal}
 use Rattle.calls.specs.Memory as memory

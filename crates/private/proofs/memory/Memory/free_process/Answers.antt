@@ -1,6 +1,5 @@
-use Rattle.std.proofs.Common.{◌≡◌, suc, ◌+◌, [], map, drop, vec_items, sym, ap, ◌∙◌, arith}
+use Rattle.std.proofs.Common.{◌≡◌, suc, ◌+◌, map, drop, vec_items, sym, ap, ◌∙◌, arith}
 use Rattle.std.proofs.lemmas.List.{drop_all}
-use Rattle.fold.specs.Fold as fold
 use Rattle.fold.specs.Fold.{first_free}
 use Rattle.private.specs.SeePage.{see_process}
 use Rattle.private.specs.declared.process.Process.{Process}

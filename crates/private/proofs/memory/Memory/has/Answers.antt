@@ -1,7 +1,7 @@
-use Rattle.std.proofs.Common.{◌≡◌, ◌+◌, ◌-◌, ◌^◌, min, cond, [], map, get_or, drop, vec_items, sym, ap, ◌∙◌, arith}
+use Rattle.std.proofs.Common.{◌≡◌, ◌+◌, ◌-◌, ◌^◌, cond, map, get_or, drop, vec_items, ap, arith}
 use Rattle.std.proofs.lemmas.List.{drop_all}
 use Rattle.fold.specs.Fold.{over_all, over_pages}
-use Rattle.private.specs.SeePage.{see_page, see_process, matching}
+use Rattle.private.specs.SeePage.{see_process, matching}
 use Rattle.private.specs.declared.process.Process.{Process}
 use Rattle.private.proofs.Worlds.{over_all_more, same_test}
 use Rattle.private.proofs.memory.Memory.has.Goals as goal

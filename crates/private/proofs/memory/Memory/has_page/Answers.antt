@@ -1,4 +1,4 @@
-use Rattle.std.proofs.Common.{sym, ap, ◌∙◌}
+use Rattle.std.proofs.Common.{sym, ap}
 use Rattle.fold.specs.Fold.{there}
 use Rattle.private.proofs.memory.Memory.has_page.Goals as goal
 

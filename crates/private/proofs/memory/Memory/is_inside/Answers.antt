@@ -1,4 +1,4 @@
-use Rattle.std.proofs.Common.{arith, rules}
+use Rattle.std.proofs.Common.{arith}
 use Rattle.fold.specs.Fold.{inside}
 use Rattle.private.proofs.memory.Memory.is_inside.Goals as goal
 

@@ -1,4 +1,4 @@
-use Rattle.std.proofs.Common.{sym, ap, ◌∙◌, arith}
+use Rattle.std.proofs.Common.{sym, ap, arith}
 use Rattle.fold.specs.Fold as fold
 use Rattle.private.proofs.Worlds.{process_at, process_past}
 use Rattle.private.proofs.memory.Memory.living.Goals as goal

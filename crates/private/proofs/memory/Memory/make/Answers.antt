@@ -1,9 +1,8 @@
-use Rattle.std.proofs.Common.{◌≡◌, sym, ap, ◌∙◌, arith}
-use Rattle.std.proofs.lemmas.Bool.{le-leb, lt-leb, and_from}
+use Rattle.std.proofs.Common.{sym, ap, ◌∙◌, arith}
+use Rattle.std.proofs.lemmas.Bool.{le-leb, lt-leb}
 use Rattle.requests.specs.Meaning.{seen_sizes}
 use Rattle.fold.specs.Fold as fold
 use Rattle.private.specs.See.{see, with_segment}
-use Rattle.private.specs.SeePage.{see_page}
 use Rattle.private.proofs.Calls as way
 use Rattle.private.proofs.memory.Memory.make.Goals as goal
 

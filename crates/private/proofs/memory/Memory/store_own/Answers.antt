@@ -1,9 +1,7 @@
-use Rattle.std.proofs.Common.{◌≡◌, ◌+◌, set, sym, ap, ◌∙◌, add-one, arith}
-use Rattle.std.proofs.lemmas.Bool.{le-leb, lt-leb, and_from}
+use Rattle.std.proofs.Common.{◌+◌, set, sym, ap, ◌∙◌, add-one}
 use Rattle.requests.specs.Meaning.{seen_sizes}
 use Rattle.fold.specs.Fold as fold
-use Rattle.private.specs.See.{see, with_segment}
-use Rattle.private.specs.SeePage.{see_page}
+use Rattle.private.specs.See.{see}
 use Rattle.private.proofs.Calls as way
 use Rattle.private.proofs.Worlds.{with_byte_is}
 use Rattle.private.proofs.memory.Memory.store_own.Goals as goal

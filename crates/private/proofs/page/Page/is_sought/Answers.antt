@@ -1,10 +1,9 @@
-use Rattle.std.proofs.Common.{◌≡◌, ℕ, cond, eqb, Vec, refl, ap, ◌∙◌}
+use Rattle.std.proofs.Common.{◌≡◌, ℕ, Vec, refl, ap, ◌∙◌}
 use Rattle.std.specs.declared.alloc.Global.{Global}
 use Rattle.fold.specs.Fold.{is_own, is_seen}
 use Rattle.private.specs.SeePage.{see_page, matching}
 use Rattle.private.specs.declared.page.Page.{Page}
 use Rattle.private.specs.declared.page.Page.TheVariants.{Absent, Own, Segment}
-use Rattle.private.specs.declared.page.Sought.TheVariants.{Labelled, Looking}
 use Rattle.private.proofs.page.Page.is_sought.Goals as goal
 
 not_own : (w : ℕ) (p : Page) → ((l : ℕ) (b : Vec ℕ Global) → p ≡ Own l b → ⊥) → is_own w (see_page p) ≡ 0

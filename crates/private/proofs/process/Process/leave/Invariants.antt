@@ -1,4 +1,4 @@
-use Rattle.std.proofs.Common.{◌≡◌, false, take, replicate, vec_items, vec_len}
+use Rattle.std.proofs.Common.{◌≡◌, false, take, replicate, vec_len}
 use Rattle.fold.specs.Fold.{absent}
 use Rattle.private.specs.SeePage.{see_process}
 use Rattle.private.proofs.process.Process.leave.Given as goal

@@ -1,4 +1,4 @@
-use Rattle.std.proofs.Common.{◌≡◌, ◌*◌, ◌≤◌, take}
+use Rattle.std.proofs.Common.{◌≡◌, ◌≤◌, take}
 use Rattle.frames.specs.Cut.{row}
 use Rattle.simulation.specs.Over.{over_row}
 use Rattle.sound.specs.Picture.{rows_of}

@@ -1,4 +1,4 @@
-use Rattle.std.proofs.Common.{◌≡◌, ◌*◌, ◌≤◌, take}
+use Rattle.std.proofs.Common.{◌≡◌, ◌≤◌, take}
 use Rattle.simulation.specs.Over.{over_row}
 use Rattle.sound.specs.Picture.{segments_of}
 use Rattle.sound.specs.Seek.{is_sought}

@@ -1,4 +1,4 @@
-use Rattle.std.proofs.Common.{◌≡◌, sym, ap, ◌∙◌, subst, arith}
+use Rattle.std.proofs.Common.{◌≡◌, subst, arith}
 use Rattle.tables.specs.Cells.{Within, cell}
 use Rattle.tables.specs.Rows.{entry_of, rows}
 use Rattle.tables.specs.declared.entry.Limits.{Limits}

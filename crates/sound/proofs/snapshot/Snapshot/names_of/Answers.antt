@@ -1,4 +1,4 @@
-use Rattle.std.proofs.Common.{◌≡◌, ◌+◌}
+use Rattle.std.proofs.Common.{◌+◌}
 use Rattle.tables.specs.State.{view}
 use Rattle.sound.proofs.snapshot.Snapshot.names_of.Goals as goal
 
