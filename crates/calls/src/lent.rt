@@ -1,5 +1,5 @@
 // Whether lent memory is long enough for the sizes.
-ghost use Rattle.std.specs.Prelude.{◌≡◌, ◌*◌, ◌&&◌, leb, OnOk, nat_le};
+ghost use Rattle.std.specs.Prelude.{◌≡◌, ◌*◌, ◌&&◌, OnOk, nat_le};
 ghost use Rattle.requests.specs.Ranges.{InRange, ranged};
 ghost use Rattle.requests.specs.Refusals.{unless_refused};
 ghost use Rattle.disk.specs.Moves.{lent};
@@ -19,7 +19,7 @@ fn tables_fit(
     place_counts: usize,
 ) -> bool
     requires { InRange (ranged sizes) }
-    ensures { result ≡ (nat_le (sizes.processes * sizes.pages) table && (nat_le sizes.segments segments && (nat_le sizes.segments lookers && (leb sizes.frames frame_counts && (nat_le sizes.frames used && leb sizes.places place_counts))))) }
+    ensures { result ≡ (nat_le (sizes.processes * sizes.pages) table && (nat_le sizes.segments segments && (nat_le sizes.segments lookers && (nat_le sizes.frames frame_counts && (nat_le sizes.frames used && nat_le sizes.places place_counts))))) }
 {
     sizes.processes * sizes.pages <= table
         && sizes.segments <= segments

@@ -1,5 +1,5 @@
 -- The hand: it goes round over the frames from where it rests and takes the first that has no used mark. Assumes nothing.
-use Rattle.std.specs.Prelude.{◌≡◌, ℕ, zero, suc, ◌+◌, ◌-◌, ◌<◌, ◌≤◌, cond, ◌≢◌, List, length, ◌==◌, nat_lt, slice_index, slice_index_or, slice_set}
+use Rattle.std.specs.Prelude.{◌≡◌, ℕ, zero, suc, ◌+◌, ◌-◌, ◌<◌, ◌≤◌, cond, ◌≢◌, List, length, ◌==◌, nat_lt, slice_index, slice_set}
 
 -- the frame that was taken, where the hand rests now, how many frames it looked at, and the marks that are left
 pub record Turned : Type 0 where
@@ -36,7 +36,7 @@ unfoldable pub frame_after : ℕ → ℕ → ℕ → ℕ
 frame_after n f zero = f
 frame_after n f (suc j) = frame_after n (next_frame n f) j
 
--- What a turn r of the hand over n frames from frame f does. It passes r .looks - 1 frames and takes the next.
+-- What a turn r of the hand over n frames from frame f does. It passes r.looks - 1 frames and takes the next.
 pub record GoesRound (n f : ℕ) (used : List ℕ) (r : Turned) : Type 0 where
   -- it looks at one frame or more and at most once at each frame and once more at the first, so it never goes round twice
   pub some : 1 ≤ r.looks
@@ -44,7 +44,7 @@ pub record GoesRound (n f : ℕ) (used : List ℕ) (r : Turned) : Type 0 where
   pub taken : r.frame ≡ frame_after n f (r.looks - 1)
   pub within : r.frame < n
   -- the frame that it takes had no mark when it was looked at: a turn does not touch that mark
-  pub unmarked : slice_index_or r.used r.frame 0 ≡ 0
+  pub unmarked : slice_index r.used r.frame ≡ 0
   -- every frame that it passed had one, and has none now; every other mark is as it was
   pub passed : (j : ℕ) → j < r.looks - 1 → slice_index used (frame_after n f j) ≢ 0
   pub cleared : (j : ℕ) → j < r.looks - 1 → slice_index r.used (frame_after n f j) ≡ 0

@@ -1,6 +1,6 @@
 // Memory is lent as bytes, 256 a page, and read as a list of pages. A frame is a part of it that is lent on to be written.
 // Each contract is for every number n of pages that one may want to see of the memory.
-ghost use Rattle.std.specs.Prelude.{◌≡◌, ℕ, ◌+◌, ◌*◌, ◌<◌, ◌≤◌, length, set, replicate, slice_index, slice_set};
+ghost use Rattle.std.specs.Prelude.{◌≡◌, ℕ, ◌+◌, ◌*◌, ◌<◌, ◌≤◌, length, replicate, slice_index, slice_set};
 ghost use Rattle.frames.specs.Cut.{pages, row, stored};
 
 // One byte of a page.
@@ -61,8 +61,8 @@ pub fn copy_across(source: &[u8], from: usize, target: &mut [u8], to: usize)
 pub fn exchange(left: &mut [u8], at_left: usize, right: &mut [u8], at_right: usize)
     requires left_within { at_left * 256 + 256 ≤ length left.old }
     requires right_within { at_right * 256 + 256 ≤ length right.old }
-    ensures left { (n m : ℕ) → at_right < m → pages n left.new ≡ set (pages n left.old) at_left (row (pages m right.old) at_right) }
-    ensures right { (n m : ℕ) → at_left < m → pages n right.new ≡ set (pages n right.old) at_right (row (pages m left.old) at_left) }
+    ensures left { (n m : ℕ) → at_right < m → pages n left.new ≡ slice_set (pages n left.old) at_left (row (pages m right.old) at_right) }
+    ensures right { (n m : ℕ) → at_left < m → pages n right.new ≡ slice_set (pages n right.old) at_right (row (pages m left.old) at_left) }
 {
     let mut page = [0u8; 256];
     page.copy_from_slice(&left[at_left * 256..at_left * 256 + 256]);
