@@ -56,6 +56,6 @@ frame_stored frames places bytes after disk f o b h e =
     let long = cut_length 256 frames bytes in
     ap (λ (xs : List (List ℕ)). xs ++ ds) e ∙ put_frame ps ds frames long f (set (row ps f) o b) h ∙ ap (λ (ws : List ℕ). set (ps ++ ds) f (set ws o b)) (sym (at_frame ps ds frames long f [] h))
 
--- a call that was served is what the request asked for
+-- what was served for a call was served for what was asked, where that says the call
 pub of_call : (g : Manager) (m : Lent) (r : Manager × Answer) (after : Lent) (k : fold.Call) (a : Asked) → a ≡ asks.calls k → Serves g m k r after → Served g m a r after
 of_call g m r after k a e h = record { same = h.same; served = h.serves ∙ ap (serve (seen_sizes g.sizes) (machine g m)) (sym e) }

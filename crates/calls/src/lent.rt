@@ -30,7 +30,7 @@ fn tables_fit(
 }
 
 // Refuses sizes that are out of range, and lent memory that is too short for them.
-pub fn admit(
+pub(crate) fn admit(
     sizes: Sizes,
     table: &[u16],
     segments: &[u16],

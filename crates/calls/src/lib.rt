@@ -4,7 +4,7 @@
 mod entries;
 pub mod entry;
 mod family;
-pub mod lent;
+mod lent;
 mod load;
 pub mod manager;
 pub mod open;

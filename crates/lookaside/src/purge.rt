@@ -21,7 +21,7 @@ fn answered_so(slot: Slot, walked: Found, limits: Limits) -> bool
 }
 
 // Whether a walk answers as the slot says.
-pub fn is_true(
+fn is_true(
     slot: Slot,
     table: &[u16],
     segments: &[u16],
