@@ -16,7 +16,7 @@ pub struct Slot {
 
 #[derive(Clone, Copy)]
 pub struct Lookaside {
-    pub slots: [Option<Slot>; 16],
+    pub slots: [Option<Slot>; SLOTS],
 }
 
 // The slot where a page is looked for: five times the process and the page, modulo sixteen. Written so that no number is too large.
@@ -51,12 +51,7 @@ impl Lookaside {
         ensures value { result ≡ find_slot self.slots frames process page }
         ensures within { IfSome result (λ s. s.frame < frames) }
     {
-        let slot = self.slots[slot_of(process, page)]?;
-        if slot.hits(frames, process, page) {
-            Some(slot)
-        } else {
-            None
-        }
+        self.slots[slot_of(process, page)].filter(|slot| slot.hits(frames, process, page))
     }
 
     // Remembers where a page lies, in the place of whatever was in its slot.

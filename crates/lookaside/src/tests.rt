@@ -1,12 +1,28 @@
 // Each rule on a small example, edges included.
 use crate::slots::*;
 use tables::entry::*;
+use tables::lent::Tables;
 
 const LIMITS: Limits = Limits {
     frames: 2,
     places: 1,
     segments: 0,
 };
+
+// What a walk reads, of two processes with two pages each and no segment.
+macro_rules! tables {
+    ($table:expr, $frames:expr, $places:expr) => {
+        Tables {
+            limits: LIMITS,
+            processes: 2,
+            pages: 2,
+            table: $table,
+            segments: &[],
+            frame_counts: $frames,
+            place_counts: $places,
+        }
+    };
+}
 
 #[test]
 fn what_is_put_is_found(rt: HostRuntime) {
@@ -67,32 +83,16 @@ fn a_purge_takes_untrue_slots(rt: HostRuntime) {
             frame: 0,
             free: true,
         });
-    let before = slots.purge(
-        &[frame_1, frame_0, frame_1, 0],
-        &[],
-        &[1, 2],
-        &[0],
-        LIMITS,
-        2,
-        2,
-    );
+    let before = slots.purge(&tables!(&[frame_1, frame_0, frame_1, 0], &[1, 2], &[0]));
     assert!(rt;
         before.find(2, 1, 0).is_some()
             && before.find(2, 0, 0).is_some()
             && before.find(2, 0, 1).is_some()
     );
-    let after = slots.purge(
-        &[place_0, frame_0, place_0, 0],
-        &[],
-        &[1, 0],
-        &[2],
-        LIMITS,
-        2,
-        2,
-    );
+    let after = slots.purge(&tables!(&[place_0, frame_0, place_0, 0], &[1, 0], &[2]));
     assert!(rt; after.find(2, 1, 0) == None);
     assert!(rt; after.find(2, 0, 0) == None);
     assert!(rt; after.find(2, 0, 1).is_some());
-    let counted = slots.purge(&[frame_1, frame_0, 0, 0], &[], &[1, 1], &[0], LIMITS, 2, 2);
+    let counted = slots.purge(&tables!(&[frame_1, frame_0, 0, 0], &[1, 1], &[0]));
     assert!(rt; counted.find(2, 0, 0) == None);
 }

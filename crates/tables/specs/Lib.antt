@@ -1,4 +1,5 @@
 pub mod Cells
 pub mod Found
+pub mod Lent
 pub mod Rows
 pub mod State

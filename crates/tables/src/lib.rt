@@ -2,6 +2,7 @@
 #![tactic(auto)]
 
 pub mod entry;
+pub mod lent;
 pub mod table;
 #[cfg(test)]
 mod tests;

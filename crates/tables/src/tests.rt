@@ -1,5 +1,6 @@
 // Each rule on a small example, edges included.
 use crate::entry::*;
+use crate::lent::Tables;
 use crate::table::*;
 use crate::walk::*;
 use std::test::Fail;
@@ -19,6 +20,21 @@ macro_rules! marked {
 macro_rules! plain {
     ($target:expr) => {
         Entry { target: $target, copy: false }
+    };
+}
+
+// What a walk reads, of a machine of one process.
+macro_rules! tables {
+    ($table:expr, $segments:expr, $frames:expr, $places:expr, $pages:expr) => {
+        Tables {
+            limits: LIMITS,
+            processes: 1,
+            pages: $pages,
+            table: $table,
+            segments: $segments,
+            frame_counts: $frames,
+            place_counts: $places,
+        }
     };
 }
 
@@ -67,19 +83,19 @@ fn a_walk_finds_pages(rt: HostRuntime) -> Result<(), Fail> {
     let mut segments = [0u16];
     let mut frames = [1u16, 2];
     let places = [0u16];
-    let absent = walk(&table, &segments, &frames, &places, LIMITS, 3, 0, 0);
+    let absent = tables!(&table, &segments, &frames, &places, 3).walk(0, 0);
     assert!(rt; absent.lies == Lies::Nowhere && !absent.free);
     write(&mut table, 3, 0, 0, marked!(Target::Frame(1)));
     write(&mut table, 3, 0, 1, plain!(Target::Segment(0)));
-    let shared = walk(&table, &segments, &frames, &places, LIMITS, 3, 0, 0);
+    let shared = tables!(&table, &segments, &frames, &places, 3).walk(0, 0);
     assert!(rt; shared.lies == Lies::Frame(1) && !shared.free);
     frames[1] = 1;
-    let alone = walk(&table, &segments, &frames, &places, LIMITS, 3, 0, 0);
+    let alone = tables!(&table, &segments, &frames, &places, 3).walk(0, 0);
     assert!(rt; alone.lies == Lies::Frame(1) && alone.free);
-    let lost = walk(&table, &segments, &frames, &places, LIMITS, 3, 0, 1);
+    let lost = tables!(&table, &segments, &frames, &places, 3).walk(0, 1);
     assert!(rt; lost.lies == Lies::Nowhere && !lost.free);
     segments[0] = plain!(Target::Place(0)).encode();
-    let segment = walk(&table, &segments, &frames, &places, LIMITS, 3, 0, 1);
+    let segment = tables!(&table, &segments, &frames, &places, 3).walk(0, 1);
     assert!(rt; segment.lies == Lies::Place(0) && segment.free);
     Ok(())
 }
@@ -92,7 +108,7 @@ fn one_entry(rt: HostRuntime) -> Result<(), Fail> {
     write(&mut table, 1, 0, 0, plain!(Target::Frame(1)));
     copy_row(&mut table, LIMITS, 1, 0, 0);
     assert!(rt; read(&table, LIMITS, 1, 0, 0) == marked!(Target::Frame(1)));
-    let found = walk(&table, &[0], &[0, 1], &[0], LIMITS, 1, 0, 0);
+    let found = tables!(&table, &[0], &[0, 1], &[0], 1).walk(0, 0);
     assert!(rt; found.lies == Lies::Frame(1) && found.free);
     clear_row(&mut table, 1, 0);
     assert!(rt; table[0] == 0);
