@@ -9,9 +9,8 @@ use Rattle.tables.specs.State.{Lent, State, view}
 use Rattle.lookaside.specs.declared.slots.Slot.{Slot}
 use Rattle.lookaside.specs.Purge.{purged}
 use Rattle.disk.specs.declared.registers.Registers.{Registers}
-use Rattle.disk.specs.declared.registers.Taken.{Taken}
 use Rattle.disk.specs.declared.registers.Transfers.{Transfers}
-use Rattle.disk.specs.Whole.{Whole, whole, Choice, settled, turned_to, with_used, free_frame, free_place, taken_by, take_frame, brought_by, bring_in}
+use Rattle.disk.specs.Whole.{Whole, whole, Choice, settled, with_used, free_frame, free_place, taken_by, take_frame, brought_by, bring_in}
 
 -- lent memory means s, and the slots were purged in it
 pub settled_whole : (z : Limits) (pages processes : ℕ) (m : Lent) (r : Registers) (s : State) (slots : List (Option Slot)) (transfers : Transfers) →
@@ -23,31 +22,14 @@ settled_whole z pages processes m r s slots transfers e t p =
     let kept = p ∙ ap (λ (x : State). purged x.rows x.segments x.counts z.frames slots) e in
     λ i. record { state = e i; hand = r.hand.at; reads = (t i).reads; writes = (t i).writes; slots = kept i }
 
--- lent memory with other used marks
-abbrev marks : Lent → List ℕ → Lent
-marks m us =
-    record {
-      table = m.table;
-      segments = m.segments;
-      lookers = m.lookers;
-      frame_counts = m.frame_counts;
-      used = us;
-      place_counts = m.place_counts;
-      frames = m.frames;
-      disk = m.disk;
-    }
-
--- The hand took a turn, and then pages were moved: with the marks as they were before the turn, lent memory means s.
-pub turned_whole : (z : Limits) (pages processes : ℕ) (w : Whole) (m : Lent) (us : List ℕ) (r : Registers) (t : Turned) (s : State) (transfers : Transfers) →
-    view z pages processes (marks m us) ≡ s → m.used ≡ t.used → r.hand.at ≡ t.rest → r.transfers ≡ transfers →
+-- The hand took a turn, and then pages were moved: lent memory means s, with the marks that the turn left.
+pub turned_whole : (z : Limits) (pages processes : ℕ) (w : Whole) (m : Lent) (r : Registers) (t : Turned) (s : State) (transfers : Transfers) →
+    view z pages processes m ≡ with_used s t.used → r.hand.at ≡ t.rest → r.transfers ≡ transfers →
     r.lookaside.slots ≡ purged (rows z pages processes m.table) (cells z m.segments) (m.frame_counts ++ m.place_counts) z.frames w.slots →
-    ◌≡◌ {A = Whole × Taken} (whole z pages processes r m, record { frame = t.frame; looks = t.looks }) (turned_to z.frames w t s transfers.reads transfers.writes)
-unfolding view
-turned_whole z pages processes w m us r t s transfers e u h f p =
-    let meant : view z pages processes m ≡ with_used s t.used = (λ i. with_used (e i) (u i)) in
-    let all = settled_whole z pages processes m r (with_used s t.used) w.slots transfers meant f p
-    ∙ ap (λ n. settled z.frames (with_used s t.used) n transfers.reads transfers.writes w.slots) h in
-    λ i. (all i, record { frame = t.frame; looks = t.looks })
+    whole z pages processes r m ≡ settled z.frames (with_used s t.used) t.rest transfers.reads transfers.writes w.slots
+turned_whole z pages processes w m r t s transfers e h f p =
+    settled_whole z pages processes m r (with_used s t.used) w.slots transfers e f p
+    ∙ ap (λ n. settled z.frames (with_used s t.used) n transfers.reads transfers.writes w.slots) h
 
 -- which frame and place are free, read off the two lists of counts
 module _ (z : Limits) (pages processes : ℕ) (r : Registers) (m : Lent) (long : length m.frame_counts ≡ z.frames) where

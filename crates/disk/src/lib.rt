@@ -2,7 +2,9 @@
 #![tactic(auto)]
 
 pub mod find;
+pub mod memory;
 pub mod moves;
+pub mod read;
 pub mod registers;
 #[cfg(test)]
 mod tests;

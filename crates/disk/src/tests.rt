@@ -1,11 +1,12 @@
 // Each path on a small machine: one page of each process, one or two frames, one place.
-use crate::find::*;
+use crate::memory::Memory;
 use crate::registers::*;
 use frames::hand::Hand;
 use frames::memory::load;
 use lookaside::slots::Lookaside;
 use std::test::Fail;
 use tables::entry::*;
+use tables::lent::Lent;
 
 macro_rules! registers {
     () => {
@@ -31,37 +32,43 @@ fn a_frame_is_found_or_not(rt: HostRuntime) -> Result<(), Fail> {
     let mut counts = [1u16];
     let mut used = [1u16];
     let mut places = [1u16];
-    let frames = [7u8; 256];
+    let mut frames = [7u8; 256];
     let mut disk = [9u8; 256];
-    let (full, none) = take_frame(
-        &mut table,
-        &mut [],
-        &mut counts,
-        &mut used,
-        &mut places,
-        &frames,
-        &mut disk,
-        limits,
-        2,
-        1,
-        registers!(),
-    );
+    let (full, none) = Memory {
+        limits: limits,
+        processes: 2,
+        pages: 1,
+        lent: Lent {
+            table: &mut table,
+            segments: &mut [],
+            lookers: &mut [],
+            frame_counts: &mut counts,
+            used: &mut used,
+            place_counts: &mut places,
+            frames: &mut frames,
+            disk: &mut disk,
+        },
+    }
+    .take_frame(registers!());
     assert!(rt; none.is_none() && full.hand.at == 0 && used[0] == 1);
     let mut one = [code!(Target::Frame(0)), 0];
     let mut free = [0u16];
-    let (after, some) = take_frame(
-        &mut one,
-        &mut [],
-        &mut counts,
-        &mut used,
-        &mut free,
-        &frames,
-        &mut disk,
-        limits,
-        2,
-        1,
-        registers!(),
-    );
+    let (after, some) = Memory {
+        limits: limits,
+        processes: 2,
+        pages: 1,
+        lent: Lent {
+            table: &mut one,
+            segments: &mut [],
+            lookers: &mut [],
+            frame_counts: &mut counts,
+            used: &mut used,
+            place_counts: &mut free,
+            frames: &mut frames,
+            disk: &mut disk,
+        },
+    }
+    .take_frame(registers!());
     let Some(taken) = some else {
         return Err(Fail::new("no frame"));
     };
@@ -97,20 +104,22 @@ fn a_page_comes_in_though_all_is_used(rt: HostRuntime) -> Result<(), Fail> {
     let mut places = [1u16];
     let mut frames = [7u8; 256];
     let mut disk = [9u8; 256];
-    let (after, taken) = bring_in(
-        &mut table,
-        &mut segments,
-        &mut counts,
-        &mut used,
-        &mut places,
-        &mut frames,
-        &mut disk,
-        limits,
-        3,
-        1,
-        registers!(),
-        0,
-    );
+    let (after, taken) = Memory {
+        limits: limits,
+        processes: 3,
+        pages: 1,
+        lent: Lent {
+            table: &mut table,
+            segments: &mut segments,
+            lookers: &mut [],
+            frame_counts: &mut counts,
+            used: &mut used,
+            place_counts: &mut places,
+            frames: &mut frames,
+            disk: &mut disk,
+        },
+    }
+    .bring_in(registers!(), 0);
     assert!(rt;
         taken.frame == 0
             && taken.looks == 1

@@ -10,7 +10,7 @@ const LIMITS: Limits = Limits {
 };
 
 // What a walk reads, of two processes with two pages each and no segment.
-macro_rules! tables {
+macro_rules! seen {
     ($table:expr, $frames:expr, $places:expr) => {
         Tables {
             limits: LIMITS,
@@ -83,16 +83,16 @@ fn a_purge_takes_untrue_slots(rt: HostRuntime) {
             frame: 0,
             free: true,
         });
-    let before = slots.purge(&tables!(&[frame_1, frame_0, frame_1, 0], &[1, 2], &[0]));
+    let before = slots.purge(&seen!(&[frame_1, frame_0, frame_1, 0], &[1, 2], &[0]));
     assert!(rt;
         before.find(2, 1, 0).is_some()
             && before.find(2, 0, 0).is_some()
             && before.find(2, 0, 1).is_some()
     );
-    let after = slots.purge(&tables!(&[place_0, frame_0, place_0, 0], &[1, 0], &[2]));
+    let after = slots.purge(&seen!(&[place_0, frame_0, place_0, 0], &[1, 0], &[2]));
     assert!(rt; after.find(2, 1, 0) == None);
     assert!(rt; after.find(2, 0, 0) == None);
     assert!(rt; after.find(2, 0, 1).is_some());
-    let counted = slots.purge(&tables!(&[frame_1, frame_0, 0, 0], &[1, 1], &[0]));
+    let counted = slots.purge(&seen!(&[frame_1, frame_0, 0, 0], &[1, 1], &[0]));
     assert!(rt; counted.find(2, 0, 0) == None);
 }

@@ -24,7 +24,7 @@ macro_rules! plain {
 }
 
 // What a walk reads, of a machine of one process.
-macro_rules! tables {
+macro_rules! seen {
     ($table:expr, $segments:expr, $frames:expr, $places:expr, $pages:expr) => {
         Tables {
             limits: LIMITS,
@@ -83,19 +83,19 @@ fn a_walk_finds_pages(rt: HostRuntime) -> Result<(), Fail> {
     let mut segments = [0u16];
     let mut frames = [1u16, 2];
     let places = [0u16];
-    let absent = tables!(&table, &segments, &frames, &places, 3).walk(0, 0);
+    let absent = seen!(&table, &segments, &frames, &places, 3).walk(0, 0);
     assert!(rt; absent.lies == Lies::Nowhere && !absent.free);
     write(&mut table, 3, 0, 0, marked!(Target::Frame(1)));
     write(&mut table, 3, 0, 1, plain!(Target::Segment(0)));
-    let shared = tables!(&table, &segments, &frames, &places, 3).walk(0, 0);
+    let shared = seen!(&table, &segments, &frames, &places, 3).walk(0, 0);
     assert!(rt; shared.lies == Lies::Frame(1) && !shared.free);
     frames[1] = 1;
-    let alone = tables!(&table, &segments, &frames, &places, 3).walk(0, 0);
+    let alone = seen!(&table, &segments, &frames, &places, 3).walk(0, 0);
     assert!(rt; alone.lies == Lies::Frame(1) && alone.free);
-    let lost = tables!(&table, &segments, &frames, &places, 3).walk(0, 1);
+    let lost = seen!(&table, &segments, &frames, &places, 3).walk(0, 1);
     assert!(rt; lost.lies == Lies::Nowhere && !lost.free);
     segments[0] = plain!(Target::Place(0)).encode();
-    let segment = tables!(&table, &segments, &frames, &places, 3).walk(0, 1);
+    let segment = seen!(&table, &segments, &frames, &places, 3).walk(0, 1);
     assert!(rt; segment.lies == Lies::Place(0) && segment.free);
     Ok(())
 }
@@ -108,7 +108,7 @@ fn one_entry(rt: HostRuntime) -> Result<(), Fail> {
     write(&mut table, 1, 0, 0, plain!(Target::Frame(1)));
     copy_row(&mut table, LIMITS, 1, 0, 0);
     assert!(rt; read(&table, LIMITS, 1, 0, 0) == marked!(Target::Frame(1)));
-    let found = tables!(&table, &[0], &[0, 1], &[0], 1).walk(0, 0);
+    let found = seen!(&table, &[0], &[0, 1], &[0], 1).walk(0, 0);
     assert!(rt; found.lies == Lies::Frame(1) && found.free);
     clear_row(&mut table, 1, 0);
     assert!(rt; table[0] == 0);
