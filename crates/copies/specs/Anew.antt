@@ -24,9 +24,13 @@ read_by frames zeros reads = reads
 read_by frames (at x) reads = cond (nat_le frames x) (counted reads) reads
 read_by frames (segment s) reads = reads
 
+-- what page v of p is
+abbrev pub holds_of : State → ℕ → ℕ → Held
+holds_of m p v = (entry_of m.rows p v).holds
+
 abbrev pub filled_anew : ℕ → Whole → ℕ → ℕ → ℕ → ℕ → ℕ → Whole
 filled_anew frames w p v f o b =
-    let h = (entry_of w.state.rows p v).holds in
+    let h = holds_of w.state p v in
     settled frames (filled_by w.state p v f o b h) w.hand (read_by frames h w.reads) w.writes w.slots
 
 -- full, with nothing changed, or the store in a frame of its own

@@ -1,4 +1,5 @@
 pub mod Anew
+pub mod Asked
 pub mod Laws
 pub mod Own
 pub mod Stores

@@ -1,15 +1,14 @@
 // A store to a page of its own, in a frame that was just taken for it.
-ghost use Rattle.std.specs.Prelude.{◌≡◌, ℕ, ◌+◌, ◌*◌, ◌<◌, ◌≤◌, List, length};
-ghost use Rattle.tables.specs.Cells.{Few, held_of, Within};
-ghost use Rattle.tables.specs.Rows.{entry_of, rows};
-ghost use Rattle.tables.specs.State.{view};
-ghost use Rattle.disk.specs.Moves.{lent};
-ghost use Rattle.disk.specs.Whole.{whole};
-ghost use Rattle.copies.specs.Anew.{filled_anew, filled_by, read_by};
+ghost use Rattle.std.specs.Prelude.{◌≡◌, ◌<◌};
+ghost use Rattle.tables.specs.Cells.{held_of, Within};
+ghost use Rattle.disk.specs.Memory.{fixed, state_of, whole_of};
+ghost use Rattle.copies.specs.Anew.{filled_anew, filled_by, holds_of, read_by};
+ghost use Rattle.copies.specs.Asked.{Inside};
 
-use crate::stores::{copy_from_frame, copy_from_place, first_store};
+use crate::stores::{Store, copy_from_frame, copy_from_place, first_store};
+use disk::memory::Memory;
 use disk::registers::{Registers, Transfers};
-use tables::entry::{Limits, Target};
+use tables::entry::Target;
 
 // Where a store wrote: the frame, whether it copied, and how many frames the hand looked at.
 #[derive(Clone, Copy)]
@@ -21,84 +20,34 @@ pub struct Written {
 
 // Fills a frame that was just taken with the page that the entry names, and stores to it.
 fn fill(
-    table: &mut [u16],
-    frame_counts: &mut [u16],
-    place_counts: &mut [u16],
-    frames: &mut [u8],
-    disk: &[u8],
-    limits: Limits,
-    pages: usize,
+    memory: &mut Memory<'_>,
     transfers: Transfers,
-    process: usize,
-    page: usize,
+    store: Store,
     target: Target,
     frame: usize,
-    offset: usize,
-    byte: u8,
 ) -> Transfers
-    requires inside { page < pages }
-    requires long { process * pages + pages ≤ length table.old }
-    requires few { Few limits }
-    requires named { (n : ℕ) → process < n → held_of limits.frames target ≡ (entry_of (rows limits pages n table.old) process page).holds }
-    requires target_within { Within limits target }
-    requires frame_within { frame < limits.frames }
-    requires offset_within { offset < 256 }
-    requires frame_counts { length frame_counts.old ≡ limits.frames }
-    requires place_counts { length place_counts.old ≡ limits.places }
-    requires frames { length frames.old ≡ limits.frames * 256 }
-    requires disk { length disk.now ≡ limits.places * 256 }
-    ensures state { (processes : ℕ) (segments lookers used : List ℕ) → process < processes → view limits pages processes (lent table.new segments lookers frame_counts.new used place_counts.new frames.new disk.now) ≡ filled_by (view limits pages processes (lent table.old segments lookers frame_counts.old used place_counts.old frames.old disk.now)) process page frame offset byte (entry_of (rows limits pages processes table.old) process page).holds }
-    ensures reads { (processes : ℕ) → process < processes → result.reads ≡ read_by limits.frames (entry_of (rows limits pages processes table.old) process page).holds transfers.reads }
+    requires inside { Inside memory.old.processes memory.old.pages store }
+    requires named { held_of memory.old.limits.frames target ≡ holds_of (state_of memory.old) store.process store.page }
+    requires target_within { Within memory.old.limits target }
+    requires frame_within { frame < memory.old.limits.frames }
+    ensures fixed { fixed memory.new ≡ fixed memory.old }
+    ensures state { state_of memory.new ≡ filled_by (state_of memory.old) store.process store.page frame store.offset store.byte (holds_of (state_of memory.old) store.process store.page) }
+    ensures reads { result.reads ≡ read_by memory.old.limits.frames (holds_of (state_of memory.old) store.process store.page) transfers.reads }
     ensures writes { result.writes ≡ transfers.writes }
 {
+    let limits = memory.limits;
+    let pages = memory.pages;
     match target {
         Target::Zero => {
-            first_store(
-                table,
-                frame_counts,
-                frames,
-                limits,
-                pages,
-                process,
-                page,
-                frame,
-                offset,
-                byte,
-            );
+            first_store(&mut memory.lent, limits, pages, store, frame);
             transfers
         }
         Target::Frame(source) => {
-            copy_from_frame(
-                table,
-                frame_counts,
-                frames,
-                limits,
-                pages,
-                process,
-                page,
-                source,
-                frame,
-                offset,
-                byte,
-            );
+            copy_from_frame(&mut memory.lent, limits, pages, store, source, frame);
             transfers
         }
         Target::Place(source) => {
-            copy_from_place(
-                table,
-                frame_counts,
-                place_counts,
-                frames,
-                disk,
-                limits,
-                pages,
-                process,
-                page,
-                source,
-                frame,
-                offset,
-                byte,
-            );
+            copy_from_place(&mut memory.lent, limits, pages, store, source, frame);
             transfers.read()
         }
         Target::Absent | Target::Segment(_) => transfers,
@@ -107,66 +56,23 @@ fn fill(
 
 // The same, with the registers: a page that lies on the disk is read, and the slots go that are no longer true.
 pub(crate) fn store_anew(
-    table: &mut [u16],
-    segments: &[u16],
-    frame_counts: &mut [u16],
-    place_counts: &mut [u16],
-    frames: &mut [u8],
-    disk: &[u8],
-    limits: Limits,
-    processes: usize,
-    pages: usize,
+    memory: &mut Memory<'_>,
     registers: Registers,
-    process: usize,
-    page: usize,
+    store: Store,
     target: Target,
     frame: usize,
-    offset: usize,
-    byte: u8,
 ) -> Registers
-    requires table { length table.old ≡ processes * pages }
-    requires segments { length segments.now ≡ limits.segments }
-    requires frame_counts { length frame_counts.old ≡ limits.frames }
-    requires place_counts { length place_counts.old ≡ limits.places }
-    requires frames { length frames.old ≡ limits.frames * 256 }
-    requires disk { length disk.now ≡ limits.places * 256 }
-    requires few { Few limits }
-    requires process_within { process < processes }
-    requires page_within { page < pages }
-    requires named { (n : ℕ) → process < n → held_of limits.frames target ≡ (entry_of (rows limits pages n table.old) process page).holds }
-    requires target_within { Within limits target }
-    requires frame_within { frame < limits.frames }
-    requires offset_within { offset < 256 }
-    ensures { (lookers used : List ℕ) → whole limits pages processes result (lent table.new segments.now lookers frame_counts.new used place_counts.new frames.new disk.now) ≡ filled_anew limits.frames (whole limits pages processes registers (lent table.old segments.now lookers frame_counts.old used place_counts.old frames.old disk.now)) process page frame offset byte }
+    requires inside { Inside memory.old.processes memory.old.pages store }
+    requires named { held_of memory.old.limits.frames target ≡ holds_of (state_of memory.old) store.process store.page }
+    requires target_within { Within memory.old.limits target }
+    requires frame_within { frame < memory.old.limits.frames }
+    ensures fixed { fixed memory.new ≡ fixed memory.old }
+    ensures value { whole_of result memory.new ≡ filled_anew memory.old.limits.frames (whole_of registers memory.old) store.process store.page frame store.offset store.byte }
 {
-    let transfers = fill(
-        table,
-        frame_counts,
-        place_counts,
-        frames,
-        disk,
-        limits,
-        pages,
-        registers.transfers,
-        process,
-        page,
-        target,
-        frame,
-        offset,
-        byte,
-    );
-    let lookaside = registers.lookaside.purge(
-        table,
-        segments,
-        frame_counts,
-        place_counts,
-        limits,
-        processes,
-        pages,
-    );
+    let transfers = fill(memory, registers.transfers, store, target, frame);
     Registers {
         hand: registers.hand,
         transfers,
-        lookaside,
+        lookaside: memory.purged(registers.lookaside),
     }
 }

@@ -3,6 +3,6 @@
 
 pub mod anew;
 pub mod own;
-mod stores;
+pub mod stores;
 #[cfg(test)]
 mod tests;

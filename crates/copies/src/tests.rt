@@ -1,11 +1,14 @@
 // Each path on a small machine: two processes of one page, one or two frames, one place.
-use crate::own::*;
+use crate::own::store;
+use crate::stores::Store;
+use disk::memory::Memory;
 use disk::registers::*;
 use frames::hand::Hand;
 use frames::memory::load;
 use lookaside::slots::Lookaside;
 use std::test::Fail;
 use tables::entry::*;
+use tables::lent::Lent;
 
 macro_rules! registers {
     () => {
@@ -34,21 +37,28 @@ fn the_page_that_is_copied_goes_out(rt: HostRuntime) -> Result<(), Fail> {
     let mut frames = [7u8; 256];
     let mut disk = [0u8; 256];
     let (after, written) = store(
-        &mut table,
-        &mut [],
-        &mut counts,
-        &mut used,
-        &mut places,
-        &mut frames,
-        &mut disk,
-        limits,
-        2,
-        1,
+        &mut Memory {
+            limits: limits,
+            processes: 2,
+            pages: 1,
+            lent: Lent {
+                table: &mut table,
+                segments: &mut [],
+                lookers: &mut [],
+                frame_counts: &mut counts,
+                used: &mut used,
+                place_counts: &mut places,
+                frames: &mut frames,
+                disk: &mut disk,
+            },
+        },
         registers!(),
-        1,
-        0,
-        5,
-        9,
+        Store {
+            process: 1,
+            page: 0,
+            offset: 5,
+            byte: 9,
+        },
     );
     assert!(rt; written.is_some() && after.transfers.reads == 1 && after.transfers.writes == 1);
     assert!(rt;
@@ -72,59 +82,80 @@ fn zeros_alone_and_full(rt: HostRuntime) -> Result<(), Fail> {
     let mut used = [0u16];
     let mut frames = [7u8; 256];
     let (after, first) = store(
-        &mut table,
-        &mut [],
-        &mut counts,
-        &mut used,
-        &mut [],
-        &mut frames,
-        &mut [],
-        limits,
-        2,
-        1,
+        &mut Memory {
+            limits: limits,
+            processes: 2,
+            pages: 1,
+            lent: Lent {
+                table: &mut table,
+                segments: &mut [],
+                lookers: &mut [],
+                frame_counts: &mut counts,
+                used: &mut used,
+                place_counts: &mut [],
+                frames: &mut frames,
+                disk: &mut [],
+            },
+        },
         registers!(),
-        0,
-        0,
-        5,
-        9,
+        Store {
+            process: 0,
+            page: 0,
+            offset: 5,
+            byte: 9,
+        },
     );
     assert!(rt; first.is_some() && table[0] == code!(Target::Frame(0), false) && counts[0] == 1);
     assert!(rt; load(&frames, 0, 5) == 9 && load(&frames, 0, 0) == 0);
     let (after, full) = store(
-        &mut table,
-        &mut [],
-        &mut counts,
-        &mut used,
-        &mut [],
-        &mut frames,
-        &mut [],
-        limits,
-        2,
-        1,
+        &mut Memory {
+            limits: limits,
+            processes: 2,
+            pages: 1,
+            lent: Lent {
+                table: &mut table,
+                segments: &mut [],
+                lookers: &mut [],
+                frame_counts: &mut counts,
+                used: &mut used,
+                place_counts: &mut [],
+                frames: &mut frames,
+                disk: &mut [],
+            },
+        },
         after,
-        1,
-        0,
-        5,
-        9,
+        Store {
+            process: 1,
+            page: 0,
+            offset: 5,
+            byte: 9,
+        },
     );
     assert!(rt; full.is_none() && table[1] == code!(Target::Zero, true) && counts[0] == 1);
     table[0] = code!(Target::Frame(0), true);
     let (_after, alone) = store(
-        &mut table,
-        &mut [],
-        &mut counts,
-        &mut used,
-        &mut [],
-        &mut frames,
-        &mut [],
-        limits,
-        2,
-        1,
+        &mut Memory {
+            limits: limits,
+            processes: 2,
+            pages: 1,
+            lent: Lent {
+                table: &mut table,
+                segments: &mut [],
+                lookers: &mut [],
+                frame_counts: &mut counts,
+                used: &mut used,
+                place_counts: &mut [],
+                frames: &mut frames,
+                disk: &mut [],
+            },
+        },
         after,
-        0,
-        0,
-        6,
-        8,
+        Store {
+            process: 0,
+            page: 0,
+            offset: 6,
+            byte: 8,
+        },
     );
     assert!(rt;
         alone.is_some() && table[0] == code!(Target::Frame(0), false) && load(&frames, 0, 6) == 8

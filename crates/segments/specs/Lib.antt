@@ -1,3 +1,4 @@
+pub mod Asked
 pub mod Full
 pub mod Make
 pub mod Reach

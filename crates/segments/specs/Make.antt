@@ -8,12 +8,13 @@ use Rattle.copies.specs.Stores.{own_cell}
 use Rattle.segments.specs.declared.make.Made.{Made}
 use Rattle.segments.specs.Release.{looked, with_segments}
 
--- segment s lies in frame f, which was free, all zeros, and page v of p looks at it
+-- segment s lies in frame f, which was free, all zeros
+abbrev pub laid_in : State → ℕ → ℕ → State
+laid_in m s f = with_segments (with_counts (with_pages m (slice_set m.pages f (replicate 256 0))) (counted_up m.counts f)) (slice_set m.segments s (own_cell f))
+
+-- and page v of p looks at it
 unfoldable pub made_in : State → ℕ → ℕ → ℕ → ℕ → State
-made_in m p v s f =
-    looked
-    (with_segments (with_counts (with_pages m (slice_set m.pages f (replicate 256 0))) (counted_up m.counts f)) (slice_set m.segments s (own_cell f)))
-    p v s
+made_in m p v s f = looked (laid_in m s f) p v s
 
 -- full, or the segment in the frame that was taken
 abbrev pub made_by : ℕ → Whole → ℕ → ℕ → ℕ → Option Taken → Whole × Option Made

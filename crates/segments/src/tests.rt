@@ -2,12 +2,15 @@
 use crate::make::*;
 use crate::reach::*;
 use crate::release::*;
+use copies::stores::Store;
+use disk::memory::Memory;
 use disk::registers::*;
 use frames::hand::Hand;
 use frames::memory::load;
 use lookaside::slots::Lookaside;
 use std::test::Fail;
 use tables::entry::*;
+use tables::lent::Lent;
 
 macro_rules! registers {
     () => {
@@ -36,17 +39,21 @@ fn a_segment_comes_and_goes(rt: HostRuntime) -> Result<(), Fail> {
     let mut used = [0u16];
     let mut frames = [7u8; 256];
     let (after, made) = make(
-        &mut table,
-        &mut segments,
-        &mut lookers,
-        &mut counts,
-        &mut used,
-        &mut [],
-        &mut frames,
-        &mut [],
-        limits,
-        2,
-        1,
+        &mut Memory {
+            limits: limits,
+            processes: 2,
+            pages: 1,
+            lent: Lent {
+                table: &mut table,
+                segments: &mut segments,
+                lookers: &mut lookers,
+                frame_counts: &mut counts,
+                used: &mut used,
+                place_counts: &mut [],
+                frames: &mut frames,
+                disk: &mut [],
+            },
+        },
         registers!(),
         0,
         0,
@@ -58,14 +65,35 @@ fn a_segment_comes_and_goes(rt: HostRuntime) -> Result<(), Fail> {
             && segments[0] == code!(Target::Frame(0))
             && load(&frames, 0, 255) == 0
     );
-    look(&mut table, &mut lookers, limits, 1, 1, 0, 0);
+    look(
+        &mut Lent {
+            table: &mut table,
+            segments: &mut [],
+            lookers: &mut lookers,
+            frame_counts: &mut [],
+            used: &mut [],
+            place_counts: &mut [],
+            frames: &mut [],
+            disk: &mut [],
+        },
+        limits,
+        1,
+        1,
+        0,
+        0,
+    );
     assert!(rt; table[1] == code!(Target::Segment(0)) && lookers[0] == 2);
     drop_page(
-        &mut table,
-        &mut segments,
-        &mut lookers,
-        &mut counts,
-        &mut [],
+        &mut Lent {
+            table: &mut table,
+            segments: &mut segments,
+            lookers: &mut lookers,
+            frame_counts: &mut counts,
+            used: &mut [],
+            place_counts: &mut [],
+            frames: &mut [],
+            disk: &mut [],
+        },
         limits,
         1,
         0,
@@ -73,28 +101,37 @@ fn a_segment_comes_and_goes(rt: HostRuntime) -> Result<(), Fail> {
     );
     assert!(rt; table[0] == 0 && lookers[0] == 1 && counts[0] == 1);
     let (_after, full) = make(
-        &mut table,
-        &mut segments,
-        &mut lookers,
-        &mut counts,
-        &mut used,
-        &mut [],
-        &mut frames,
-        &mut [],
-        limits,
-        2,
-        1,
+        &mut Memory {
+            limits: limits,
+            processes: 2,
+            pages: 1,
+            lent: Lent {
+                table: &mut table,
+                segments: &mut segments,
+                lookers: &mut lookers,
+                frame_counts: &mut counts,
+                used: &mut used,
+                place_counts: &mut [],
+                frames: &mut frames,
+                disk: &mut [],
+            },
+        },
         after,
         0,
         0,
     );
     assert!(rt; full.is_none() && table[0] == 0);
     drop_page(
-        &mut table,
-        &mut segments,
-        &mut lookers,
-        &mut counts,
-        &mut [],
+        &mut Lent {
+            table: &mut table,
+            segments: &mut segments,
+            lookers: &mut lookers,
+            frame_counts: &mut counts,
+            used: &mut [],
+            place_counts: &mut [],
+            frames: &mut [],
+            disk: &mut [],
+        },
         limits,
         1,
         1,
@@ -120,21 +157,28 @@ fn a_segment_on_the_disk_is_stored_to(rt: HostRuntime) -> Result<(), Fail> {
     let mut frames = [7u8; 256];
     let mut disk = [9u8; 256];
     let (after, reached) = store_to_segment(
-        &mut table,
-        &mut segments,
-        &mut counts,
-        &mut used,
-        &mut places,
-        &mut frames,
-        &mut disk,
-        limits,
-        2,
-        1,
+        &mut Memory {
+            limits: limits,
+            processes: 2,
+            pages: 1,
+            lent: Lent {
+                table: &mut table,
+                segments: &mut segments,
+                lookers: &mut [],
+                frame_counts: &mut counts,
+                used: &mut used,
+                place_counts: &mut places,
+                frames: &mut frames,
+                disk: &mut disk,
+            },
+        },
         registers!(),
-        0,
-        0,
-        5,
-        1,
+        Store {
+            process: 0,
+            page: 0,
+            offset: 5,
+            byte: 1,
+        },
     );
     assert!(rt; reached.is_some() && after.transfers.reads == 1 && after.transfers.writes == 1);
     assert!(rt; segments[0] == code!(Target::Frame(0)) && table[1] == code!(Target::Place(0)));

@@ -1,60 +1,41 @@
-use Rattle.std.proofs.Common.{◌<◌, true, ◌++◌, IfSome, Some, Option, sym, ap, ◌∙◌, subst, arith}
+use Rattle.std.proofs.Common.{true, Some, Option, sym, ap, ◌∙◌}
 use Rattle.std.proofs.lemmas.Bool.{cond-true, cond-false}
 use Rattle.tables.specs.Cells.{Cell}
 use Rattle.tables.specs.State.{view}
-use Rattle.tables.proofs.Rows.{row_within}
 use Rattle.disk.specs.declared.registers.Taken.{Taken}
-use Rattle.disk.specs.Moves.{lent}
-use Rattle.disk.specs.Whole.{Whole, whole}
+use Rattle.disk.specs.Memory.{state_of, whole_of}
+use Rattle.disk.specs.Whole.{Whole}
 use Rattle.copies.specs.declared.anew.Written.{Written}
-use Rattle.copies.specs.Anew.{stored_anew, written_by}
+use Rattle.copies.specs.Anew.{filled_anew, stored_anew, written_by}
 use Rattle.copies.specs.Own.{must_copy, stored_own}
 use Rattle.copies.proofs.own.store.Goals as goal
 
-pub read-seen-requires : goal.read-seen-requires
-read-seen-requires c =
-    record { inside = c.requires.page_within; long = omega (arith, row_within c.args.process c.args.processes c.args.pages c.requires.process_within, c.requires.exact.table) }
-
-pub read-target-requires : goal.read-target-requires
-read-target-requires c =
-    record { inside = c.requires.page_within; long = omega (arith, row_within c.args.process c.args.processes c.args.pages c.requires.process_within, c.requires.exact.table) }
-
-pub returns-then-not-must_copy : goal.returns-then-not-must_copy
+pub returns-then-not-must_copy-clause-value : goal.returns-then-not-must_copy-clause-value
 unfolding view stored_own
-returns-then-not-must_copy c =
-    let counts = c.args.frame_counts.now ++ c.args.place_counts.now in
-    let test = ap (λ (e : Cell). must_copy counts e.holds) (sym (c.read-seen.ensures.value c.args.processes c.requires.process_within)) ∙ sym c.must_copy.ensures ∙ c.if-not-must_copy.true in
-    record { value = λ lookers. c.store_alone.ensures.value lookers ∙ sym (cond-false _ _ _ test); within = c.store_alone.ensures.within }
+returns-then-not-must_copy-clause-value c =
+    let s = state_of c.args.memory.now in
+    let test = ap (λ (e : Cell). must_copy s.counts e.holds) (sym c.entry-seen.ensures.value) ∙ sym c.must_copy.ensures ∙ c.if-not-must_copy.true in
+    c.store_alone.ensures.value ∙ sym (cond-false _ _ _ test)
 
-pub returns-in-None : goal.returns-in-None
+pub returns-in_default-clause-value : goal.returns-in_default-clause-value
 unfolding view stored_own stored_anew
-returns-in-None c =
-    let counts = c.args.frame_counts.now ++ c.args.place_counts.now in
-    let test = ap (λ (e : Cell). must_copy counts e.holds) (sym (c.read-seen.ensures.value c.args.processes c.requires.process_within)) ∙ sym c.must_copy.ensures ∙ c.if-not-must_copy.false in
-    record {
-      value = λ lookers.
-          let z = c.args.limits in
-          let by : Whole × Option Taken → Whole × Option Written = λ q. written_by z.frames q.0 c.args.process c.args.page c.args.offset c.args.byte q.1 in
-          let m = lent c.take_frame-taken.new.table c.take_frame-taken.new.segments lookers c.take_frame-taken.new.frame_counts c.take_frame-taken.new.used c.take_frame-taken.new.place_counts c.args.frames.now c.take_frame-taken.new.disk in
-          let w = whole z c.args.pages c.args.processes c.take_frame-taken.result.0 m in
-          ap (λ (o : Option Taken). by (w, o)) (sym c.in-None.is) ∙ ap by (c.take_frame-taken.ensures.value lookers) ∙ sym (cond-true _ _ _ test);
-      within = tt;
-    }
+returns-in_default-clause-value c =
+    let m = c.args.memory.now in
+    let s = c.args.store in
+    let test = ap (λ (e : Cell). must_copy (state_of m).counts e.holds) (sym c.entry-seen.ensures.value) ∙ sym c.must_copy.ensures ∙ c.if-not-must_copy.false in
+    let by : Whole × Option Taken → Whole × Option Written = λ q. written_by m.limits.frames q.0 s.process s.page s.offset s.byte q.1 in
+    let w = whole_of c.take_frame-taken.result.0 c.take_frame-taken.new.self in
+    ap (λ (o : Option Taken). by (w, o)) (sym c.in_default.is) ∙ ap by c.take_frame-taken.ensures.value ∙ sym (cond-true _ _ _ test)
 
-pub returns-in-Some : goal.returns-in-Some
+pub returns-clause-value : goal.returns-clause-value
 unfolding view stored_own stored_anew
-returns-in-Some c =
-    let z = c.args.limits in
+returns-clause-value c =
+    let m = c.args.memory.now in
+    let s = c.args.store in
+    let test = ap (λ (e : Cell). must_copy (state_of m).counts e.holds) (sym c.entry-seen.ensures.value) ∙ sym c.must_copy.ensures ∙ c.if-not-must_copy.false in
+    let by : Whole × Option Taken → Whole × Option Written = λ q. written_by m.limits.frames q.0 s.process s.page s.offset s.byte q.1 in
+    let w = whole_of c.take_frame-taken.result.0 c.take_frame-taken.new.self in
     let t = c.in-Some.taken in
-    let counts = c.args.frame_counts.now ++ c.args.place_counts.now in
-    let test = ap (λ (e : Cell). must_copy counts e.holds) (sym (c.read-seen.ensures.value c.args.processes c.requires.process_within)) ∙ sym c.must_copy.ensures ∙ c.if-not-must_copy.false in
-    record {
-      value = λ lookers.
-          let by : Whole × Option Taken → Whole × Option Written = λ q. written_by z.frames q.0 c.args.process c.args.page c.args.offset c.args.byte q.1 in
-          let m = lent c.take_frame-taken.new.table c.take_frame-taken.new.segments lookers c.take_frame-taken.new.frame_counts c.take_frame-taken.new.used c.take_frame-taken.new.place_counts c.args.frames.now c.take_frame-taken.new.disk in
-          let w = whole z c.args.pages c.args.processes c.take_frame-taken.result.0 m in
-          let written : Written = record { frame = t.frame; copied = true; looks = t.looks } in
-          (λ i. (c.store_anew-registers.ensures lookers c.take_frame-taken.new.used i, Some written)) ∙ ap (λ (o : Option Taken). by (w, o)) (sym c.in-Some.is)
-          ∙ ap by (c.take_frame-taken.ensures.value lookers) ∙ sym (cond-true _ _ _ test);
-      within = subst (λ (o : Option Taken). IfSome o (λ (k : Taken). k.frame < z.frames)) c.in-Some.is c.take_frame-taken.ensures.within;
-    }
+    let written : Written = record { frame = t.frame; copied = true; looks = t.looks } in
+    let filled = c.store_anew-registers.ensures.value ∙ (λ i. filled_anew (c.take_frame-taken.ensures.fixed i).limits.frames w s.process s.page t.frame s.offset s.byte) in
+    (λ i. (filled i, Some written)) ∙ ap (λ (o : Option Taken). by (w, o)) (sym c.in-Some.is) ∙ ap by c.take_frame-taken.ensures.value ∙ sym (cond-true _ _ _ test)

@@ -10,25 +10,29 @@ use Rattle.copies.specs.Stores.{copy_stored}
 use Rattle.copies.proofs.Parts.{up_frame, down_frame, put_then_store}
 use Rattle.copies.proofs.stores.copy_from_frame.Goals as goal
 
-pub returns : goal.returns
+pub returns-clause-stored : goal.returns-clause-stored
 unfolding view copy_stored
-returns c processes segments lookers used places disk h =
+returns-clause-stored c n h =
     let z = c.args.limits in
+    let m = c.args.lent.now in
+    let s = c.args.store in
     let f = c.args.frame in
+    let fs = cut 256 z.frames m.frames.now in
+    let ds = cut 256 z.places m.disk.now in
+    let e = c.requires.storable in
+    let long : length fs ≡ z.frames = cut_length 256 z.frames m.frames.now in
+    let rows = c.attach.ensures.rows z n e.frame in
     let x = c.args.source in
-    let counts-now = c.args.frame_counts.now in
-    let fs = cut 256 z.frames c.args.frames.now in
-    let ds = cut 256 z.places disk in
-    let long : length fs ≡ z.frames = cut_length 256 z.frames c.args.frames.now in
-    let rows = c.attach.ensures.rows z processes c.requires.frame_within in
-    let lowered : length (counted_down counts-now x) ≡ z.frames = length-set counts-now x _ ∙ c.requires.frame_counts in
+    let counts-now = m.frame_counts.now in
+    let places = m.place_counts.now in
+    let lowered : length (counted_down counts-now x) ≡ z.frames = length-set counts-now x _ ∙ e.located.frame_counts in
     let counts =
-    ap (λ xs. xs ++ places) (c.attach.ensures.counts ∙ ap (λ cs. counted_up cs f) c.count_down.ensures) ∙ up_frame (counted_down counts-now x) places z.frames lowered f c.requires.frame_within
-    ∙ ap (λ cs. counted_up cs f) (down_frame counts-now places z.frames c.requires.frame_counts x c.requires.source_within) in
+    ap (λ xs. xs ++ places) (ap (λ cs. counted_up cs f) c.count_down.ensures) ∙ up_frame (counted_down counts-now x) places z.frames lowered f e.frame
+    ∙ ap (λ cs. counted_up cs f) (down_frame counts-now places z.frames e.located.frame_counts x c.requires.source_within) in
     let bytes =
-    c.store.ensures z.frames ∙ ap (λ ps. stored ps f c.args.offset c.args.byte) (c.copy.ensures z.frames c.requires.source_within)
-    ∙ put_then_store fs f c.args.offset c.args.byte (row fs x) (omega (arith, c.requires.frame_within)) in
+    c.store.ensures z.frames ∙ ap (λ ps. stored ps f s.offset s.byte) (c.copy.ensures z.frames c.requires.source_within) ∙ put_then_store fs f s.offset s.byte (row fs x) (omega (arith, e.frame)) in
     let pages =
-    ap (λ ps. ps ++ ds) bytes ∙ put_frame fs ds z.frames long f (set (row fs x) c.args.offset c.args.byte) c.requires.frame_within
-    ∙ ap (λ ws. set (fs ++ ds) f (set ws c.args.offset c.args.byte)) (sym (at_frame fs ds z.frames long x [] c.requires.source_within)) in
-    λ i. record { rows = rows i; segments = cells z segments; lookers = lookers; counts = counts i; pages = pages i; used = used }
+    ap (λ ps. ps ++ ds) bytes ∙ put_frame fs ds z.frames long f (set (row fs x) s.offset s.byte) e.frame
+    ∙ ap (λ ws. set (fs ++ ds) f (set ws s.offset s.byte)) (sym (at_frame fs ds z.frames long x [] c.requires.source_within)) in
+    ap (view z c.args.pages n) c.attach.ensures.lists
+    ∙ (λ i. record { rows = rows i; segments = cells z m.segments.now; lookers = m.lookers.now; counts = counts i; pages = pages i; used = m.used.now })
