@@ -4,6 +4,7 @@ use Rattle.requests.specs.Meaning.{Asked, asked, seen_sizes}
 use Rattle.requests.specs.Ranges.{InRange, ranged, sizes_refusal}
 use Rattle.requests.specs.Refusals.{either_refusal}
 use Rattle.requests.specs.declared.answer.Answer.{Answer}
+use Rattle.requests.specs.declared.answer.Part.TheVariants as part
 use Rattle.requests.specs.declared.answer.Refusal.{Refusal}
 use Rattle.requests.specs.declared.answer.Refusal.TheVariants.{Kind, Lent as TooShort}
 use Rattle.requests.specs.declared.request.Call.{Call}
@@ -21,12 +22,12 @@ tables_fit z m =
     && (nat_le z.segments (length m.lookers)
     && (nat_le z.frames (length m.frame_counts) && (nat_le z.frames (length m.used) && nat_le z.places (length m.place_counts)))))
 
--- the first of lent memory that is too short: 0 frames, 1 disk, 2 tables
+-- the first of lent memory that is too short
 abbrev pub lent_refusal : Sizes → Lent → Option Refusal
 lent_refusal z m =
     cond (nat_le (z.frames * 256) (length m.frames))
-    (cond (nat_le (z.places * 256) (length m.disk)) (cond (tables_fit z m) None (Some (TooShort 2))) (Some (TooShort 1)))
-    (Some (TooShort 0))
+    (cond (nat_le (z.places * 256) (length m.disk)) (cond (tables_fit z m) None (Some (TooShort part.Tables))) (Some (TooShort part.Disk)))
+    (Some (TooShort part.Frames))
 
 -- sizes are looked at before lent memory
 abbrev pub entry_refusal : Sizes → Lent → Option Refusal

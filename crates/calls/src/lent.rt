@@ -5,7 +5,7 @@ ghost use Rattle.requests.specs.Refusals.{unless_refused};
 ghost use Rattle.disk.specs.Moves.{lent};
 ghost use Rattle.calls.specs.Entry.{entry_refusal, Roomy};
 
-use requests::answer::Refusal;
+use requests::answer::{Part, Refusal};
 use requests::sizes::Sizes;
 
 // Whether each table is as long as the sizes need it.
@@ -46,10 +46,10 @@ pub(crate) fn admit(
 {
     sizes.check()?;
     if frames.len() < sizes.frames * 256 {
-        return Err(Refusal::Lent(0));
+        return Err(Refusal::Lent(Part::Frames));
     }
     if disk.len() < sizes.places * 256 {
-        return Err(Refusal::Lent(1));
+        return Err(Refusal::Lent(Part::Disk));
     }
     let tables = tables_fit(
         sizes,
@@ -61,7 +61,7 @@ pub(crate) fn admit(
         place_counts.len(),
     );
     if !tables {
-        return Err(Refusal::Lent(2));
+        return Err(Refusal::Lent(Part::Tables));
     }
     Ok(())
 }

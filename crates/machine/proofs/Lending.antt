@@ -5,6 +5,7 @@ use Rattle.requests.specs.Meaning.{Asked, seen_sizes}
 use Rattle.requests.specs.Ranges.{sizes_refusal}
 use Rattle.requests.specs.Refusals.{either_refusal}
 use Rattle.requests.specs.declared.answer.Answer.{Answer}
+use Rattle.requests.specs.declared.answer.Part.TheVariants as part
 use Rattle.requests.specs.declared.answer.Refusal.{Refusal}
 use Rattle.requests.specs.declared.answer.Refusal.TheVariants.{Lent as TooShort}
 use Rattle.requests.specs.declared.sizes.Sizes.{Sizes}
@@ -39,7 +40,7 @@ as_roomy z m after l =
     (cond
     (leb (z.processes * z.pages) (l.table i)
     && (leb z.segments (l.segments i) && (leb z.segments (l.lookers i) && (leb z.frames (l.frame_counts i) && (leb z.frames (l.used i) && leb z.places (l.place_counts i))))))
-    None (Some (TooShort 2))) (Some (TooShort 1))) (Some (TooShort 0)))
+    None (Some (TooShort part.Tables))) (Some (TooShort part.Disk))) (Some (TooShort part.Frames)))
 
 -- an opening that gave a manager was not refused
 pub opened_manager : (o : Option Refusal) (z : Sizes) (m : Lent) (r : Result Manager Refusal) (after : Lent) (g : Manager) → r ≡ Ok g → Opened o z m r after →

@@ -49,7 +49,7 @@ either_none (Some f) b e = absurd (none≢some _ (sym e))
 -- the lines of a row of a machine whose sizes are in range
 row_same : (z : Sizes) (row : List ℕ) (n : ℕ) → sizes_refusal z ≡ None → lines_from (serve (seen_sizes z)) row (first (seen_sizes z) z.frames z.places) n 0 ≡ seen_lines z row n
 row_same z row n e =
-    let r = in_range 0 (ranged z) e in
+    let r = in_range (ranged z) e in
     let some : 1 ≤ z.frames = omega (arith, r) in
     let processes : z.processes ≡ suc (z.processes - 1) = omega (arith, r) in
     let few : z.processes - 1 < 16 = omega (arith, r) in

@@ -4,7 +4,8 @@ use Rattle.requests.specs.declared.answer.Refusal.{Refusal}
 use Rattle.requests.specs.declared.answer.Refusal.TheVariants.{Length, Kind}
 use Rattle.requests.specs.declared.request.Call.{Call}
 use Rattle.requests.specs.declared.request.Call.TheVariants.{Counts}
-use Rattle.requests.specs.Row.{call_table, call_of, kind_at, call_at, calls_from, calls_of, is_kind, unknown_from}
+use Rattle.requests.specs.Kinds.{is_kind}
+use Rattle.requests.specs.Row.{call_table, call_of, kind_at, call_at, calls_from, calls_of, unknown_from}
 use Rattle.requests.specs.Row.{StoresByte, StoresBytes, RowSays, RowRefusesFirst, RowStores}
 use Rattle.std.proofs.lemmas.Option.{slice_get-get_or, slice_get_past}
 use Rattle.std.proofs.lemmas.Bool.{false≢true, leb-true, lt-ltb, le-ltb, and_parts, cases_lt, cases_eq, cases_Bool, cond-true, cond-false, cond_both}

@@ -1,5 +1,6 @@
 -- A row of calls as bytes, eight to a call: which calls it says, and why it is refused. Assumes nothing.
-use Rattle.std.specs.Prelude.{◌≡◌, ℕ, zero, suc, ◌+◌, ◌*◌, ◌/◌, ◌%◌, ◌<◌, Bool, true, false, cond, ◌&&◌, List, [], ◌∷◌, ◌++◌, length, Some, None, Option, ◌==◌, nat_le, nat_lt, slice_index}
+use Rattle.std.specs.Prelude.{◌≡◌, ℕ, zero, suc, ◌+◌, ◌*◌, ◌/◌, ◌%◌, ◌<◌, true, false, cond, ◌&&◌, List, [], ◌∷◌, ◌++◌, length, Some, None, Option, ◌==◌, nat_le, nat_lt, slice_index}
+use Rattle.requests.specs.Kinds.{is_kind}
 use Rattle.requests.specs.declared.answer.Refusal.{Refusal}
 use Rattle.requests.specs.declared.answer.Refusal.TheVariants.{Length, Kind}
 use Rattle.requests.specs.declared.request.Call.{Call}
@@ -38,9 +39,6 @@ calls_from row (suc n) i = option_to_list (call_at row i) ++ calls_from row n (i
 
 unfoldable pub calls_of : List ℕ → List Call
 calls_of row = calls_from row (length row / 8) 0
-
-abbrev pub is_kind : ℕ → Bool
-is_kind k = nat_le 1 k && nat_le k 9
 
 -- of n calls from call i on, the first with a kind that is none
 unfoldable pub unknown_from : List ℕ → ℕ → ℕ → Option Refusal

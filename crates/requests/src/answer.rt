@@ -12,13 +12,31 @@ pub enum Answer {
     Full,
 }
 
-// Each with the place that its line of the table of refusals names.
+// The five sizes of a machine, in the order in which they are looked at.
+#[derive(Clone, Copy, PartialEq, Eq, Debug)]
+pub enum Size {
+    Processes,
+    Pages,
+    Segments,
+    Frames,
+    Places,
+}
+
+// The parts of lent memory, in the order in which they are looked at.
+#[derive(Clone, Copy, PartialEq, Eq, Debug)]
+pub enum Part {
+    Frames,
+    Disk,
+    Tables,
+}
+
+// Each with what its place in the table of refusals says.
 #[derive(Clone, Copy, PartialEq, Eq, Debug)]
 pub enum Refusal {
-    // a size out of range: which of the five, from 0
-    Size(usize),
-    // lent memory too short: 0 frames, 1 disk, 2 tables
-    Lent(usize),
+    // a size out of range
+    Size(Size),
+    // lent memory too short
+    Lent(Part),
     // a row whose length, given here, is no multiple of eight
     Length(usize),
     // a kind that is 0 or above 9: the call's number, from 0
@@ -41,10 +59,9 @@ impl Refusal {
         ensures { result ≡ refusal_place self }
     {
         match self {
-            Refusal::Size(place)
-            | Refusal::Lent(place)
-            | Refusal::Length(place)
-            | Refusal::Kind(place) => place,
+            Refusal::Size(size) => size as usize,
+            Refusal::Lent(part) => part as usize,
+            Refusal::Length(place) | Refusal::Kind(place) => place,
         }
     }
 }

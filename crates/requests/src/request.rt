@@ -1,9 +1,52 @@
 // One call, and how bytes say it.
-ghost use Rattle.std.specs.Prelude.{◌≡◌, if◌then◌else◌, nat_le};
+ghost use Rattle.std.specs.Prelude.{◌≡◌, Some, if◌then◌else◌, nat_le};
+ghost use Rattle.requests.specs.Kinds.{Decodes};
 ghost use Rattle.requests.specs.Row.{call_of, call_of_numbers};
+ghost use Rattle.requests.specs.Text.{call_text};
+
+use std::fmt;
+
+// What a call asks for. A row has the number.
+#[derive(Clone, Copy, PartialEq, Eq, Debug)]
+pub enum Kind {
+    Fork = 1,
+    Leave,
+    Map,
+    Drop,
+    Make,
+    Look,
+    Load,
+    Store,
+    Counts,
+}
+
+// A number that no kind has.
+#[derive(Clone, Copy, PartialEq, Eq, Debug)]
+pub struct UnknownKind;
+
+impl TryFrom<usize> for Kind {
+    type Error = UnknownKind;
+
+    ghost try_from_gives = { Decodes };
+
+    fn try_from(number: usize) -> Result<Kind, UnknownKind> {
+        match number {
+            1 => Ok(Kind::Fork),
+            2 => Ok(Kind::Leave),
+            3 => Ok(Kind::Map),
+            4 => Ok(Kind::Drop),
+            5 => Ok(Kind::Make),
+            6 => Ok(Kind::Look),
+            7 => Ok(Kind::Load),
+            8 => Ok(Kind::Store),
+            9 => Ok(Kind::Counts),
+            _ => Err(UnknownKind),
+        }
+    }
+}
 
 // A number that names no process, page or byte of the machine is allowed here, and answered as a fault.
-#[derive(Clone, Copy, PartialEq, Eq)]
+#[derive(Clone, Copy, PartialEq, Eq, Debug)]
 pub enum Call {
     Fork {
         process: usize,
@@ -55,46 +98,44 @@ impl Call {
     ) -> Option<Call>
         ensures { result ≡ call_of_numbers kind process page third fourth }
     {
-        match kind {
-            1 => Some(Call::Fork { process }),
-            2 => Some(Call::Leave { process }),
-            3 => Some(Call::Map { process, page }),
-            4 => Some(Call::Drop { process, page }),
-            5 => Some(Call::Make { process, page }),
-            6 => Some(Call::Look {
+        Some(match Kind::try_from(kind).ok()? {
+            Kind::Fork => Call::Fork { process },
+            Kind::Leave => Call::Leave { process },
+            Kind::Map => Call::Map { process, page },
+            Kind::Drop => Call::Drop { process, page },
+            Kind::Make => Call::Make { process, page },
+            Kind::Look => Call::Look {
                 process,
                 page,
                 from_process: third,
                 from_page: fourth,
-            }),
-            7 => Some(Call::Load {
+            },
+            Kind::Load => Call::Load {
                 process,
                 page,
                 offset: third,
-            }),
-            8 => Some(Call::store(process, page, third, fourth)),
-            9 => Some(Call::Counts),
-            _ => None,
-        }
+            },
+            Kind::Store => Call::store(process, page, third, fourth),
+            Kind::Counts => Call::Counts,
+        })
     }
 
     fn store(process: usize, page: usize, offset: usize, byte: usize) -> Call
         ensures { result ≡ (if nat_le 256 byte then Call.Store process page 256 0 else Call.Store process page offset byte) }
     {
-        if byte < 256 {
-            Call::Store {
+        match u8::try_from(byte) {
+            Ok(byte) => Call::Store {
                 process,
                 page,
                 offset,
-                byte: byte as u8,
-            }
-        } else {
-            Call::Store {
+                byte,
+            },
+            Err(_) => Call::Store {
                 process,
                 page,
                 offset: 256,
                 byte: 0,
-            }
+            },
         }
     }
 
@@ -108,5 +149,38 @@ impl Call {
             usize::from(third),
             usize::from(fourth),
         )
+    }
+}
+
+// As the table of calls writes it.
+impl fmt::Display for Call {
+    ghost output = { λ c. Some (call_text c) };
+
+    fn fmt<W: fmt::Write>(&self, f: &mut fmt::Formatter<W>) -> fmt::Result {
+        match *self {
+            Call::Fork { process } => write!(f, "fork {process}"),
+            Call::Leave { process } => write!(f, "leave {process}"),
+            Call::Map { process, page } => write!(f, "map {process} {page}"),
+            Call::Drop { process, page } => write!(f, "drop {process} {page}"),
+            Call::Make { process, page } => write!(f, "make {process} {page}"),
+            Call::Look {
+                process,
+                page,
+                from_process,
+                from_page,
+            } => write!(f, "look {process} {page} {from_process} {from_page}"),
+            Call::Load {
+                process,
+                page,
+                offset,
+            } => write!(f, "load {process} {page} {offset}"),
+            Call::Store {
+                process,
+                page,
+                offset,
+                byte,
+            } => write!(f, "store {process} {page} {offset} {byte}"),
+            Call::Counts => f.write_str("counts"),
+        }
     }
 }

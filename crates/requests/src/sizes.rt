@@ -1,9 +1,11 @@
 // How large a machine is. Pages have 256 bytes.
-ghost use Rattle.std.specs.Prelude.{◌≡◌, ◌<◌, [], ◌∷◌, OnOk, slice_index};
+ghost use Rattle.std.specs.Prelude.{◌≡◌, false, ◌<◌, [], ◌∷◌, OnOk, slice_index};
+ghost use Rattle.std.specs.Range.{range_inclusive_end, range_inclusive_exhausted, range_inclusive_start};
 ghost use Rattle.requests.specs.Ranges.{InRange, number_at, out_of_range, ranged, sizes_of, sizes_refusal};
 ghost use Rattle.requests.specs.Refusals.{unless_refused};
 
-use crate::answer::Refusal;
+use crate::answer::{Refusal, Size};
+use std::ops::RangeInclusive;
 
 #[derive(Clone, Copy, PartialEq, Eq, Debug)]
 pub struct Sizes {
@@ -33,34 +35,34 @@ impl Sizes {
         ensures value { result ≡ unless_refused (sizes_refusal self) tt }
         ensures ok { OnOk result (InRange (ranged self)) }
     {
-        in_range(0, self.processes, 1, 16)?;
-        in_range(1, self.pages, 1, 64)?;
-        in_range(2, self.segments, 0, 16)?;
-        in_range(3, self.frames, 1, 512)?;
-        in_range(4, self.places, 0, 512)
+        in_range(Size::Processes, self.processes, 1..=16)?;
+        in_range(Size::Pages, self.pages, 1..=64)?;
+        in_range(Size::Segments, self.segments, 0..=16)?;
+        in_range(Size::Frames, self.frames, 1..=512)?;
+        in_range(Size::Places, self.places, 0..=512)
     }
 }
 
-fn in_range(place: usize, size: usize, least: usize, most: usize) -> Result<(), Refusal>
-    ensures { result ≡ unless_refused (out_of_range place ((size, least, most) ∷ [])) tt }
+fn in_range(size: Size, count: usize, range: RangeInclusive<usize>) -> Result<(), Refusal>
+    requires { range_inclusive_exhausted range ≡ false }
+    ensures { result ≡ unless_refused (out_of_range ((size, count, range_inclusive_start range, range_inclusive_end range) ∷ [])) tt }
 {
-    if least <= size && size <= most {
+    if range.contains(&count) {
         Ok(())
     } else {
-        Err(Refusal::Size(place))
+        Err(Refusal::Size(size))
     }
 }
 
-fn byte_at(bytes: &[u8], i: usize) -> usize
-    ensures value { result ≡ slice_index bytes.now i }
-    ensures bound { result < 256 }
+fn byte_at(bytes: &[u8], i: usize) -> u8
+    ensures { result ≡ slice_index bytes.now i }
 {
-    usize::from(bytes.get(i).copied().unwrap_or(0))
+    bytes.get(i).copied().unwrap_or(0)
 }
 
 fn number_at(bytes: &[u8], k: usize) -> usize
     requires { k < 5 }
     ensures { result ≡ number_at bytes.now k }
 {
-    byte_at(bytes, 2 * k) + 256 * byte_at(bytes, 2 * k + 1)
+    usize::from(u16::from_le_bytes([byte_at(bytes, 2 * k), byte_at(bytes, 2 * k + 1)]))
 }

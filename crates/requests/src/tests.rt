@@ -9,16 +9,16 @@ fn sizes_are_held_to_their_ranges(rt: HostRuntime) {
     let answers = [
         ([1, 1, 0, 1, 0], Ok(())),
         ([16, 64, 16, 512, 512], Ok(())),
-        ([0, 1, 0, 1, 0], Err(Refusal::Size(0))),
-        ([17, 64, 16, 512, 512], Err(Refusal::Size(0))),
-        ([1, 0, 0, 1, 0], Err(Refusal::Size(1))),
-        ([16, 65, 16, 512, 512], Err(Refusal::Size(1))),
-        ([16, 64, 17, 512, 512], Err(Refusal::Size(2))),
-        ([1, 1, 0, 0, 0], Err(Refusal::Size(3))),
-        ([16, 64, 16, 513, 512], Err(Refusal::Size(3))),
-        ([16, 64, 16, 512, 513], Err(Refusal::Size(4))),
+        ([0, 1, 0, 1, 0], Err(Refusal::Size(Size::Processes))),
+        ([17, 64, 16, 512, 512], Err(Refusal::Size(Size::Processes))),
+        ([1, 0, 0, 1, 0], Err(Refusal::Size(Size::Pages))),
+        ([16, 65, 16, 512, 512], Err(Refusal::Size(Size::Pages))),
+        ([16, 64, 17, 512, 512], Err(Refusal::Size(Size::Segments))),
+        ([1, 1, 0, 0, 0], Err(Refusal::Size(Size::Frames))),
+        ([16, 64, 16, 513, 512], Err(Refusal::Size(Size::Frames))),
+        ([16, 64, 16, 512, 513], Err(Refusal::Size(Size::Places))),
         // the first of two
-        ([16, 65, 16, 512, 513], Err(Refusal::Size(1))),
+        ([16, 65, 16, 512, 513], Err(Refusal::Size(Size::Pages))),
     ];
     for ([processes, pages, segments, frames, places], answer) in answers {
         let sizes = Sizes {
@@ -116,9 +116,28 @@ fn calls_are_read_of_eight_bytes(rt: HostRuntime) {
     for (kind, call) in (0u8..11).zip(calls) {
         // the last three bytes are not read
         let row = [1, 0, 0, 0, 0, 0, 0, 0, kind, 10, 20, 30, 40, 0, 255, kind];
-        assert!(rt; row::call_at(&row, 1) == call);
+        assert_eq!(rt; row::call_at(&row, 1), call);
     }
     assert!(rt; row::call_at(&[1, 0, 0, 0, 0, 0, 0], 0).is_none());
+}
+
+#[test]
+fn calls_are_written(rt: HostRuntime) -> Result<(), Fail> {
+    let look = Call::Look {
+        process: 1,
+        page: 2,
+        from_process: 3,
+        from_page: 40,
+    };
+    let store = Call::Store {
+        process: 1,
+        page: 2,
+        offset: 255,
+        byte: 7,
+    };
+    let text = format!(in rt.alloc(); "{look}, {store}, {}", Call::Counts)?;
+    assert_eq!(rt; text.as_str(), "look 1 2 3 40, store 1 2 255 7, counts");
+    Ok(())
 }
 
 #[test]

@@ -3,6 +3,7 @@ use Rattle.std.proofs.Common.{◌≡◌, Bool, true, false, cond, is_some, Some,
 use Rattle.std.proofs.lemmas.Bool.{and_parts, leb-true, true≢false}
 use Rattle.requests.specs.Ranges.{ranged, sizes_refusal}
 use Rattle.requests.specs.Refusals.{either_refusal}
+use Rattle.requests.specs.declared.answer.Part.TheVariants as part
 use Rattle.requests.specs.declared.answer.Refusal.{Refusal}
 use Rattle.requests.specs.declared.answer.Refusal.TheVariants.{Lent as TooShort}
 use Rattle.requests.specs.declared.sizes.Sizes.{Sizes}
@@ -26,16 +27,16 @@ passed false o r e = absurd (true≢false e)
 pub roomy : (z : Sizes) (m : Lent) → is_some (entry_refusal z m) ≡ false → Roomy z m
 roomy z m e =
     let both = neither (sizes_refusal z) (lent_refusal z m) e in
-    let frames = passed _ _ (TooShort 0) both.1 in
-    let disk = passed _ _ (TooShort 1) frames.1 in
-    let tables = passed (tables_fit z m) None (TooShort 2) disk.1 in
+    let frames = passed _ _ (TooShort part.Frames) both.1 in
+    let disk = passed _ _ (TooShort part.Disk) frames.1 in
+    let tables = passed (tables_fit z m) None (TooShort part.Tables) disk.1 in
     let t = and_parts _ _ tables.0 in
     let s = and_parts _ _ t.1 in
     let l = and_parts _ _ s.1 in
     let f = and_parts _ _ l.1 in
     let u = and_parts _ _ f.1 in
     record {
-      range = in_range 0 (ranged z) (none_some (sizes_refusal z) both.0);
+      range = in_range (ranged z) (none_some (sizes_refusal z) both.0);
       table = leb-true _ _ t.0;
       segments = leb-true _ _ s.0;
       lookers = leb-true _ _ l.0;

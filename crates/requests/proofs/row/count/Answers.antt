@@ -1,25 +1,16 @@
--- The refusal of the row, from what the loop has seen of its kinds.
-use Rattle.std.proofs.Common.{◌/◌, length, sym, ap, ◌∙◌}
-use Rattle.requests.specs.Refusals.{unless_refused}
-use Rattle.requests.proofs.Decoding.{kind_refused, kind_passed, kinds_passed, refused_by_kind}
+-- The refusal of the row is that of its calls.
+use Rattle.std.proofs.Common.{◌∙◌, position, None, Some, sym, ap, arith}
+use Rattle.std.proofs.lemmas.Bool.Decides.{nat_tests}
+use Rattle.requests.specs.Kinds.{unknown}
+use Rattle.requests.proofs.Decoding.{refused_by_place}
 use Rattle.requests.proofs.row.count.Goals as goal
 
-pub returns-then-not-is_kind : goal.returns-then-not-is_kind
-returns-then-not-is_kind c =
-    let row = c.args.row.now in
-    let n = length row / 8 in
-    let found = kind_refused row n c.loop-i.i c.loop-i-test.true (sym c.if-not-is_kind.ensures) in
-    sym (ap (λ o. unless_refused o n) (refused_by_kind row c.if-row-ne0.false ∙ sym c.loop-i.invariant ∙ found))
+pub returns-in-Some : goal.returns-in-Some
+returns-in-Some c =
+    let found = sym c.in-Some.is ∙ c.first_unknown.ensures ∙ ap (position unknown) c.as_chunks.ensures.front in
+    rw (refused_by_place c.args.row.now (Some c.in-Some.i) (grind (arith, nat_tests)) found)
 
-pub loop-i-preserved : goal.loop-i-preserved
-loop-i-preserved c =
-    let row = c.args.row.now in
-    let n = length row / 8 in
-    sym (kind_passed row n c.loop-i.i c.loop-i-test.true (sym c.if-not-is_kind.ensures)) ∙ c.loop-i.invariant
-
-pub returns : goal.returns
-returns c =
-    let row = c.args.row.now in
-    let n = length row / 8 in
-    let none = kinds_passed row n c.loop-i.i c.loop-i-test.false in
-    sym (ap (λ o. unless_refused o n) (refused_by_kind row c.if-row-ne0.false ∙ sym c.loop-i.invariant ∙ none))
+pub returns-in-None : goal.returns-in-None
+returns-in-None c =
+    let found = sym c.in-None.is ∙ c.first_unknown.ensures ∙ ap (position unknown) c.as_chunks.ensures.front in
+    rw (refused_by_place c.args.row.now None (grind (arith, nat_tests)) found, c.as_chunks.ensures.front_len)
