@@ -1,5 +1,6 @@
 -- How many numbers below n pass a test, and when one such count is another.
 use Rattle.std.proofs.Common.{◌≡◌, ℕ, zero, suc, ◌+◌, ◌<◌, ◌≤◌, Bool, true, false, not, ◌&&◌, eqb, ◌⊎◌, sym, refl, ap, ◌∙◌, subst, inl, inr, arith}
+use Rattle.std.proofs.Math.Bool.{and-true}
 use Rattle.std.proofs.lemmas.Bool.{cases_lt, cases_eq, cases_Bool, both_ways, and_from, and_parts, and_right, eq-eqb, ne_eqb, eqb-false, not_from_true, not_from_false, not-true}
 
 abbrev pub one : Bool → ℕ
@@ -30,16 +31,12 @@ count_without q k (suc m) h e =
       | inl s ↦
           let here : one (without q k m) ≡ 0 = ap one (and_right (q m) _ (not_from_true _ (eq-eqb m k s))) in
           let was : one (q m) ≡ 1 = ap one (ap q s ∙ e) in
-          let below : count (without q k) m ≡ count q m = count_cong _ _ m (λ i l. ap (λ b. q i && not b) (ne_eqb i k (omega arith)) ∙ kept (q i)) in
+          let below : count (without q k) m ≡ count q m = count_cong _ _ m (λ i l. ap (λ b. q i && not b) (ne_eqb i k (omega arith)) ∙ and-true (q i)) in
           omega arith
       | inr n ↦
-          let here : one (without q k m) ≡ one (q m) = ap one (ap (λ b. q m && not b) (ne_eqb m k n) ∙ kept (q m)) in
+          let here : one (without q k m) ≡ one (q m) = ap one (ap (λ b. q m && not b) (ne_eqb m k n) ∙ and-true (q m)) in
           let below : suc (count (without q k) m) ≡ count q m = count_without q k m (omega arith) e in omega arith
     ]
-  where
-    kept : (b : Bool) → (b && true) ≡ b
-    kept true = refl
-    kept false = refl
 
 -- Where each number that passes p is sent to one that passes q, and no two to the same, q counts as many or more.
 pub count_into : (p q : ℕ → Bool) (n m : ℕ) (R : ℕ → ℕ → Type 0) →

@@ -38,19 +38,13 @@ good_still z w x h (seen s) k = (omega (arith, h.segments, k.0), h.words s k.1)
 abbrev pub Moved : World → World → Type 0
 Moved w x = (r u : ℕ) → (page x r u ≡ absent) ⊎ ((q : ℕ) × (v : ℕ) × (page x r u ≡ page w q v))
 
-absent≢own : (l : ℕ) (ws : List ℕ) → absent ≡ own l ws → ⊥
-absent≢own l ws e = let z : ◌≡◌ {A = ℕ} 0 1 = cc in omega arith
-
-absent≢seen : (s : ℕ) → absent ≡ seen s → ⊥
-absent≢seen s e = let z : ◌≡◌ {A = ℕ} 0 1 = cc in omega arith
-
 module _ (z : Sizes) (w x : World) (sound : Sound z w) (grown : Grown z w x) (moved : Moved w x) where
   moved_own : (r u l : ℕ) (ws : List ℕ) → page x r u ≡ own l ws → (q : ℕ) × (v : ℕ) × (page w q v ≡ own l ws)
   moved_own r u l ws e =
-      elim (moved r u) [ inl a ↦ absurd (absent≢own l ws (sym a ∙ e)) | inr m ↦ (m.0, m.1, sym m.2 ∙ e) ]
+      elim (moved r u) [ inl a ↦ cc | inr m ↦ (m.0, m.1, sym m.2 ∙ e) ]
 
   moved_seen : (r u s : ℕ) → page x r u ≡ seen s → (q : ℕ) × (v : ℕ) × (page w q v ≡ seen s)
-  moved_seen r u s e = elim (moved r u) [ inl a ↦ absurd (absent≢seen s (sym a ∙ e)) | inr m ↦ (m.0, m.1, sym m.2 ∙ e) ]
+  moved_seen r u s e = elim (moved r u) [ inl a ↦ cc | inr m ↦ (m.0, m.1, sym m.2 ∙ e) ]
 
   moved_good : (r u : ℕ) → Good z x (page x r u)
   moved_good r u =
@@ -174,15 +168,15 @@ module _ (z : Sizes) (w : World) (sound : Sound z w) where
       let grown : Grown z w x = grown_same z w x (omega arith) refl in
       put_sound z w x p v g sound i grown refl (sound.fresh, length-replicate z.words 0, λ _. refl)
       (λ r u l ws xs n e f. let k : l ≡ 0 = cc in let ws-is : ws ≡ zeros z = cc in ws-is ∙ sym ((good_at r u (own l xs) f).2 k))
-      (put_held z w x p v g sound i grown refl refl (λ l ws n e. absurd (n (cc))) (λ s e. absurd (let k : ◌≡◌ {A = ℕ} 0 1 = cc in omega arith)))
+      (put_held z w x p v g sound i grown refl refl (λ l ws n e. absurd (n (cc))) (λ s e. cc))
 
   sound_dropped : (p v : ℕ) → Inside z w p v → Sound z (with_page w p v absent)
   unfolding with_page
   sound_dropped p v i =
       let x : World = with_page w p v absent in
       let grown : Grown z w x = grown_same z w x (omega arith) refl in
-      put_sound z w x p v absent sound i grown refl tt (λ r u l ws xs n e f. absurd (absent≢own l ws e))
-      (put_held z w x p v absent sound i grown refl refl (λ l ws n e. absurd (absent≢own l ws e)) (λ s e. absurd (absent≢seen s e)))
+      put_sound z w x p v absent sound i grown refl tt (λ r u l ws xs n e f. cc)
+      (put_held z w x p v absent sound i grown refl refl (λ l ws n e. cc) (λ s e. cc))
 
   sound_looked : (p v q u s : ℕ) → Inside z w p v → page w q u ≡ seen s → Sound z (with_page w p v (seen s))
   unfolding with_page
@@ -190,8 +184,8 @@ module _ (z : Sizes) (w : World) (sound : Sound z w) where
       let x : World = with_page w p v (seen s) in
       let grown : Grown z w x = grown_same z w x (omega arith) refl in
       put_sound z w x p v (seen s) sound i grown refl (good_at q u (seen s) e)
-      (λ r t l ws xs n k f. absurd (let z : ◌≡◌ {A = ℕ} 0 1 = cc in omega arith))
-      (put_held z w x p v (seen s) sound i grown refl refl (λ l ws n k. absurd (let z : ◌≡◌ {A = ℕ} 0 1 = cc in omega arith)) (λ t k. (q, u, e ∙ k)))
+      (λ r t l ws xs n k f. cc)
+      (put_held z w x p v (seen s) sound i grown refl refl (λ l ws n k. cc) (λ t k. (q, u, e ∙ k)))
 
   sound_alone : (p v o y l : ℕ) (ws : List ℕ) → Inside z w p v → page w p v ≡ own l ws → l ≢ 0 → users w l ≤ 1 → Sound z (with_page w p v (own l (set ws o y)))
   unfolding with_page
@@ -202,7 +196,7 @@ module _ (z : Sizes) (w : World) (sound : Sound z w) where
       let k = good_at p v (own l ws) e in
       put_sound z w x p v g sound i grown refl (k.0, length-set ws o y ∙ k.1, λ h. absurd (n h))
       (λ r u m bs xs other a f. absurd (let same : m ≡ l = cc in omega (arith, uses_twice w l p v r u ws xs e (subst (λ t. page w r u ≡ own t xs) same f) other)))
-      (put_held z w x p v g sound i grown refl refl (λ m bs h a. (p, v, ws, let same : own l ws ≡ own m ws = ap (λ t. own t ws) (let t : l ≡ m = cc in t) in e ∙ same)) (λ s a. absurd (let z : ◌≡◌ {A = ℕ} 0 1 = cc in omega arith)))
+      (put_held z w x p v g sound i grown refl refl (λ m bs h a. (p, v, ws, let same : own l ws ≡ own m ws = ap (λ t. own t ws) (let t : l ≡ m = cc in t) in e ∙ same)) (λ s a. cc))
 
   sound_anew : (p v o y l : ℕ) (ws : List ℕ) → Inside z w p v → page w p v ≡ own l ws → held w < z.hold → Sound z (with_label w p v (set ws o y))
   unfolding with_page count
@@ -215,7 +209,7 @@ module _ (z : Sizes) (w : World) (sound : Sound z w) where
       λ m h _ u. ⊎_elim (λ (a : (bs : List ℕ) × (g ≡ own m bs)). absurd (let same : w.next ≡ m = let b = a.1 in cc in omega arith)) (λ a. a) (put_uses z w x p v g sound i grown refl m u) in
       let labels : count (label_held x) w.next ≤ count (label_held w) w.next = labels_le w x w.next unused in
       let segs : count (segment_held x) (length w.segments) ≤ count (segment_held w) (length w.segments) =
-      segments_le w x (length w.segments) (λ s u. ⊎_elim (λ (a : g ≡ seen s). absurd (let b : ◌≡◌ {A = ℕ} 0 1 = cc in omega arith)) (λ a. a) (put_looks z w x p v g sound i grown refl s u)) in
+      segments_le w x (length w.segments) (λ s u. ⊎_elim (λ (a : g ≡ seen s). cc) (λ a. a) (put_looks z w x p v g sound i grown refl s u)) in
       let here : one (label_held x w.next) ≤ 1 = one_le (label_held x w.next) in
       put_sound z w x p v g sound i grown refl (omega arith, length-set ws o y ∙ k.1, λ h. absurd (omega (arith, sound.fresh)))
       (λ r u m bs xs other a f. absurd (let same : w.next ≡ m = cc in omega (arith, (good_at r u (own m xs) f).0)))
@@ -233,12 +227,12 @@ module _ (z : Sizes) (w : World) (sound : Sound z w) where
       let grown : Grown z w x = grown_segment z w x (free_segment w) (zeros z) refl refl (λ _. length-replicate z.words 0) in
       let below : free_segment w < length w.segments = omega (arith, sound.segments) in
       let labels : count (label_held x) w.next ≤ count (label_held w) w.next =
-      labels_le w x w.next (λ l h n u. ⊎_elim (λ (a : (bs : List ℕ) × (g ≡ own l bs)). absurd (let c = a.1 in let b : ◌≡◌ {A = ℕ} 0 1 = cc in omega arith)) (λ a. a) (put_uses z w x p v g sound i grown refl l u)) in
+      labels_le w x w.next (λ l h n u. ⊎_elim (λ (a : (bs : List ℕ) × (g ≡ own l bs)). let c = a.1 in cc) (λ a. a) (put_uses z w x p v g sound i grown refl l u)) in
       let segs : count (segment_held x) (length w.segments) ≤ suc (count (segment_held w) (length w.segments)) =
       count_one_more _ _ (length w.segments) (free_segment w)
       (λ s h e. ⊎_elim (λ (a : g ≡ seen s). inr (let b : free_segment w ≡ s = cc in sym b)) (λ a. inl (segment_held_from w s a)) (put_looks z w x p v g sound i grown refl s (segment_held_of x s e))) in
       put_sound z w x p v g sound i grown refl (omega (arith, grown.segments), ap length (get_or-set_same w.segments (free_segment w) (zeros z) [] below) ∙ length-replicate z.words 0)
-      (λ r u l ws xs n e f. absurd (let b : ◌≡◌ {A = ℕ} 0 1 = cc in omega arith))
+      (λ r u l ws xs n e f. cc)
       (omega (arith, held_is x, held_is w, ap (count (segment_held x)) grown.segments))
 
   -- a process put in place of another: its pages are absent, or those of a process that was there
@@ -298,9 +292,9 @@ module _ (z : Sizes) (w : World) (sound : Sound z w) where
 pub nothing_held : (w : World) → ((p v : ℕ) → page w p v ≡ absent) → held w ≡ 0
 nothing_held w none =
     let labels : count (label_held w) w.next ≡ 0 =
-    count_none _ w.next (λ l _ e. let u = (label_held_of w l e).1 in absent≢own l u.2 (sym (none u.0 u.1) ∙ u.3)) in
+    count_none _ w.next (λ l _ e. let u = (label_held_of w l e).1 in cc (none u.0 u.1, u.3)) in
     let segs : count (segment_held w) (length w.segments) ≡ 0 =
-    count_none _ (length w.segments) (λ s _ e. let u = segment_held_of w s e in absent≢seen s (sym (none u.0 u.1) ∙ u.2)) in
+    count_none _ (length w.segments) (λ s _ e. let u = segment_held_of w s e in cc (none u.0 u.1, u.2)) in
     omega (arith, held_is w)
 
 -- the start: nothing is there but process 0, and it has no page
@@ -338,7 +332,7 @@ sound_begin z n e =
       segments = length-replicate z.segments [];
       fresh = omega arith;
       good = λ p v. subst (Good z (begin z n)) (sym (begin_absent z n p v)) tt;
-      same = λ p v q u l ws xs a b. absurd (absent≢own l ws (sym (begin_absent z n p v) ∙ a));
+      same = λ p v q u l ws xs a b. cc (begin_absent z n p v);
       within = omega (arith, nothing_held (begin z n) (begin_absent z n));
     }
 

@@ -2,6 +2,7 @@
 use Rattle.std.proofs.Common.{◌≡◌, ℕ, suc, ◌+◌, ◌<◌, ◌≤◌, true, cond, ◌⊎◌, List, [], ◌∷◌, length, get_or, set, sum_by, sym, refl, ap, ◌∙◌, inl, inr, arith}
 use Rattle.std.proofs.lemmas.List.Sums.{sum_by-cons, sum_by-set, get_or-le-sum_by}
 use Rattle.std.proofs.lemmas.List.{get_or_past}
+use Rattle.std.proofs.lemmas.List.Recursion.{is_sum_by}
 use Rattle.std.proofs.lemmas.Bool.{cases_lt, cases_Bool, cond-true, cond-false}
 use Rattle.fold.specs.Fold.{Page, Process, World, absent, nobody, process, page, over_pages, over_all, with_page}
 use Rattle.fold.proofs.Pages.{page_is, alive_below, page_other, repaged}
@@ -26,8 +27,7 @@ sumBy_member f (x ∷ xs) h =
 
 pub over_pages_is : (f : Page → ℕ) (xs : List Page) → over_pages f xs ≡ sum_by f xs
 unfolding over_pages
-over_pages_is f [] = refl
-over_pages_is f (x ∷ xs) = ap (λ n. f x + n) (over_pages_is f xs) ∙ sym (sum_by-cons f x xs)
+over_pages_is f = is_sum_by (over_pages f) f refl (λ x xs. refl)
 
 -- what a process adds
 abbrev pub living : (Page → ℕ) → Process → ℕ
@@ -35,11 +35,7 @@ living f q = cond q.alive (sum_by f q.pages) 0
 
 pub over_all_is : (f : Page → ℕ) (qs : List Process) → over_all f qs ≡ sum_by (living f) qs
 unfolding over_all
-over_all_is f [] = refl
-over_all_is f (q ∷ qs) =
-    let here : cond q.alive (over_pages f q.pages) 0 ≡ living f q = ap (λ n. cond q.alive n 0) (over_pages_is f q.pages) in
-    let rest : over_all f qs ≡ sum_by (living f) qs = over_all_is f qs in
-    omega (arith, sum_by-cons (living f) q qs)
+over_all_is f = is_sum_by (over_all f) (living f) refl (λ q qs. ap (λ n. cond q.alive n 0 + over_all f qs) (over_pages_is f q.pages))
 
 -- a sum over all pages after one page changed
 pub over_all_changed : (f : Page → ℕ) (w : World) (p v : ℕ) (x : Page) → (process w p).alive ≡ true → v < length (process w p).pages →

@@ -8,15 +8,6 @@ use Rattle.fold.proofs.Pages.{page_of, page_is, process_put, alive_with_page, pa
 use Rattle.fold.proofs.Ways.{Inside, by_fork, by_store, by_ways, load_own, load_seen, load_same, segment, with_segment, free_process}
 use Rattle.fold.proofs.Reach.{Sound, sound, nothing_held, good_at}
 
-fault≢done : (n : ℕ) → fault ≡ done n → ⊥
-fault≢done n e = let z : ◌≡◌ {A = ℕ} 0 1 = cc in omega arith
-
-full≢done : (n : ℕ) → full ≡ done n → ⊥
-full≢done n e = let z : ◌≡◌ {A = ℕ} 0 1 = cc in omega arith
-
-seen≢own : (s l : ℕ) (ws : List ℕ) → seen s ≡ own l ws → ⊥
-seen≢own s l ws e = let z : ◌≡◌ {A = ℕ} 0 1 = cc in omega arith
-
 -- a load of another page than the one that was put
 load_other : (z : Sizes) (w x : World) (q u : ℕ) (g : Page) → x.processes ≡ (with_page w q u g).processes → x.segments ≡ w.segments →
     (p v o : ℕ) → (p ≡ q → v ≡ u → ⊥) → (call z x (load p v o)).1 ≡ (call z w (load p v o)).1
@@ -35,7 +26,7 @@ apart z n cs p v o q u i x l ws e other here =
       no_room = λ m bs k h g s f. refl;
       anew = λ m bs k h g s f. load_other z w _ q u _ refl refl p v o other;
       alone = λ m bs k h g s f. load_other z w _ q u _ refl refl p v o other;
-      in_segment = λ s k h g. absurd (seen≢own s l ws (sym g ∙ here));
+      in_segment = λ s k h g. (let k : seen s ≡ own l ws = sym g ∙ here in cc);
     })
 
 pub child : Child
@@ -44,8 +35,8 @@ child z n cs p c v o e =
     let w : World = after z (begin z n) cs in
     by_fork z w p (λ y a. a ≡ done c → (call z y (load c v o)).1 ≡ (call z w (load p v o)).1)
     (record {
-      nobody_there = λ k. absurd (fault≢done c k);
-      all_there = λ a f k. absurd (full≢done c k);
+      nobody_there = λ k. cc;
+      all_there = λ a f k. cc;
       forked = λ a f k.
           let is : c ≡ free_process w = cc in
           let put : process (with_process w (free_process w) (process w p)) c ≡ process w p =
@@ -88,8 +79,8 @@ refused_unchanged z w =
     })
   where
     done_not : {n : ℕ} {x : World} → (done n ≡ fault) ⊎ (done n ≡ full) → x ≡ w
-    done_not {n} (inl e) = absurd (fault≢done n (sym e))
-    done_not {n} (inr e) = absurd (full≢done n (sym e))
+    done_not {n} (inl e) = cc
+    done_not {n} (inr e) = cc
 
 module _ (z : Sizes) (w : World) (whole : Sound z w) (p v o x : ℕ) (inside : Inside z w p v) (below : o < z.words) where
   -- a load of the byte that was just stored to an own page
@@ -118,8 +109,8 @@ load_after_store z n cs p v o x k e =
     let s : Sound z w = sound z n cs e in
     by_store z w p v o x (λ y a. a ≡ done k → (call z y (load p v o)).1 ≡ done x)
     (record {
-      not_there = λ a. absurd (fault≢done k a);
-      no_room = λ l ws i h g sh f a. absurd (full≢done k a);
+      not_there = λ a. cc;
+      no_room = λ l ws i h g sh f a. cc;
       anew = λ l ws i h g sh f a. load_put z w s p v o x i h _ l w.next ws g refl;
       alone = λ l ws i h g sh f a. load_put z w s p v o x i h _ l l ws g refl;
       in_segment = λ t i h g a. load_segment z w s p v o x i h t g;

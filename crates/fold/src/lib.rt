@@ -16,7 +16,8 @@ pub fn copies(shared: u32) -> bool
 
 // The table of rows stands. Answers how many rows it has.
 pub fn rows_stand() -> usize
-    ensures { (RowsStand) × (result ≡ length rows) }
+    ensures stand { RowsStand }
+    ensures count { result ≡ length rows }
 {
     7
 }
@@ -59,5 +60,6 @@ pub fn refused_unchanged()
 // The main promise, stated for every split of what is held into frames and places, gives the form that names the hold alone,
 // for every rule that splits a hold; and there is such a rule: frames first, up to 512.
 pub fn by_hold<Manager>()
-    ensures { (ByHold Manager) × (Splits (min 512)) }
+    ensures form { ByHold Manager }
+    ensures rule { Splits (min 512) }
 {}

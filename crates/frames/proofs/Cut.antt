@@ -1,6 +1,7 @@
 -- Laws of a flat list as rows, for any length of a row.
-use Rattle.std.proofs.Common.{◌≡◌, ℕ, zero, suc, ◌+◌, ◌*◌, ◌<◌, ◌≤◌, List, [], ◌∷◌, ◌++◌, map, length, get_or, take, drop, set, sym, refl, ap, ◌∙◌, suc-mul, zero-mul, arith}
+use Rattle.std.proofs.Common.{◌≡◌, ℕ, zero, suc, ◌+◌, ◌*◌, ◌<◌, ◌≤◌, List, ◌∷◌, ◌++◌, map, length, get_or, take, drop, set, sym, refl, ap, ◌∙◌, suc-mul, zero-mul, arith}
 use borrow.Rule.Slice.PartMut.{put_mid}
+use Rattle.std.proofs.Math.Seq.{take-set-lt}
 use Rattle.std.proofs.lemmas.List.{take-map, drop-map, length-take, length-drop, take_at, drop_at, drop-drop, drop-take, drop-append-le, take-set-le, drop-set-lt, drop-set-add, get_or-take, get_or-drop}
 use Rattle.std.proofs.lemmas.Slice.{take-put_mid_below}
 use Rattle.frames.specs.Cut.{cut, row}
@@ -45,19 +46,13 @@ cut_put w (suc n) xs ys (suc d) e h =
     cons (take-put_mid_below (suc d * w) w xs ys w (omega arith) (omega arith))
     (ap (λ a. cut w n (drop w (put_mid a w xs ys))) k ∙ ap (cut w n) (drop_put w (d * w) xs ys (omega arith)) ∙ cut_put w n (drop w xs) ys d e fits)
 
-take_set_same : {X : Type 0} (w : ℕ) (xs : List X) (o : ℕ) (x : X) → take w (set xs o x) ≡ set (take w xs) o x
-take_set_same zero xs o x = refl
-take_set_same (suc w) [] o x = refl
-take_set_same (suc w) (y ∷ ys) zero x = refl
-take_set_same (suc w) (y ∷ ys) (suc o) x = ap (λ zs. y ∷ zs) (take_set_same w ys o x)
-
 -- one element written
 pub cut_set : {X : Type 0} (w n : ℕ) (xs : List X) (d o : ℕ) (x : X) → o < w → cut w n (set xs (d * w + o) x) ≡ set (cut w n xs) d (set (row (cut w n xs) d) o x)
 unfolding cut
 cut_set w zero xs d o x h = refl
 cut_set w (suc n) xs zero o x h =
     let k : 0 * w + o ≡ o = omega (arith, zero-mul w) in
-    cons (ap (λ i. take w (set xs i x)) k ∙ take_set_same w xs o x) (ap (λ i. cut w n (drop w (set xs i x))) k ∙ ap (cut w n) (drop-set-lt w xs o x h))
+    cons (ap (λ i. take w (set xs i x)) k ∙ take-set-lt w xs o x h) (ap (λ i. cut w n (drop w (set xs i x))) k ∙ ap (cut w n) (drop-set-lt w xs o x h))
 cut_set w (suc n) xs (suc d) o x h =
     let k : suc d * w + o ≡ w + (d * w + o) = omega (arith, suc-mul d w) in
     cons (take-set-le w xs (suc d * w + o) x (omega arith))

@@ -1,67 +1,35 @@
--- The search for the lowest count 0, step by step, and what it says of every index.
-use Rattle.std.proofs.Common.{◌≡◌, ℕ, zero, suc, ◌+◌, ◌-◌, ◌<◌, ◌≤◌, min, cond, eqb, ◌≢◌, List, [], ◌∷◌, length, get_or, drop, Some, None, Option, sym, ap, ◌∙◌, subst, inl, inr, arith, MatchOption}
-use Rattle.std.proofs.lemmas.List.{at_drop_more, at_drop_all, get_or-set_same, get_or-set_other}
-use Rattle.std.proofs.lemmas.Bool.{cond-true, cond-false, cases_eq, eq-eqb, ne_eqb}
+-- The lowest count 0, and what it says of every index.
+use Rattle.std.proofs.Common.{◌≡◌, ℕ, ◌+◌, ◌<◌, cond, eqb, ltb, ◌≢◌, List, [], ◌∷◌, length, get_or, Some, None, Option, sym, refl, ap, ◌∙◌, subst, arith, rules, MatchOption}
+use Rattle.std.specs.List.{position, position_from, position_or_len}
+use Rattle.std.proofs.lemmas.List.Sums.{fails_before_first, passes_at_first}
+use Rattle.std.proofs.lemmas.Bool.{cond_both, eqb-true, eqb-false, ltb-true, ltb-false}
+use Rattle.std.proofs.lemmas.Iterator.Adapters.{position_from-zero}
 use Rattle.frames.specs.Counts.{lowest_from, lowest_free, LowestIsFree, CountsOne}
 
-module _ (cs : List ℕ) (i : ℕ) where
-  unfolded : i < length cs → lowest_from i (drop i cs) ≡ cond (eqb (get_or cs i 0) 0) (Some i) (lowest_from (i + 1) (drop (i + 1) cs))
-  unfolding lowest_from
-  unfolded h = at_drop_more (lowest_from i) cs i 0 h
-
-  pub lowest_here : i < length cs → get_or cs i 0 ≡ 0 → lowest_from i (drop i cs) ≡ Some i
-  lowest_here h e = unfolded h ∙ cond-true _ _ _ (eq-eqb _ 0 e)
-
-  pub lowest_later : i < length cs → get_or cs i 0 ≢ 0 → lowest_from i (drop i cs) ≡ lowest_from (i + 1) (drop (i + 1) cs)
-  lowest_later h n = unfolded h ∙ cond-false _ _ _ (ne_eqb _ 0 n)
-
-  pub lowest_none : length cs ≤ i → lowest_from i (drop i cs) ≡ None
-  unfolding lowest_from
-  lowest_none h = at_drop_all (lowest_from i) cs i h
-
--- what a search from index i on tells of the counts from there on
-abbrev LowestFrom : ℕ → List ℕ → Type 0
-LowestFrom i cs =
-    MatchOption (lowest_from i cs) ((k : ℕ) → k < length cs → get_or cs k 0 ≢ 0)
-    (λ r. (k : ℕ) × (r ≡ i + k) × (k < length cs) × (get_or cs k 0 ≡ 0) × ((j : ℕ) → j < k → get_or cs j 0 ≢ 0))
-
-lowest_tells : (i : ℕ) (cs : List ℕ) → LowestFrom i cs
+-- The definition is the first index at which the library's `position` passes.
+lowest_position_from : (i : ℕ) (cs : List ℕ) → lowest_from i cs ≡ position_from (λ c. eqb c 0) i cs
 unfolding lowest_from
-lowest_tells i [] = λ k h. absurd (omega arith)
-lowest_tells i (c ∷ cs) =
-    elim (cases_eq c 0) [
-      | inl z ↦ subst Tells (sym (cond-true _ _ _ (eq-eqb c 0 z))) (0, omega arith, omega arith, z, λ j h. absurd (omega arith))
-      | inr n ↦ subst Tells (sym (cond-false _ _ _ (ne_eqb c 0 n))) (later n (lowest_from (i + 1) cs) (lowest_tells (i + 1) cs))
-    ]
-  where
-    Tells : Option ℕ → Type 0
-    Tells r =
-        MatchOption r ((k : ℕ) → k < length (c ∷ cs) → get_or (c ∷ cs) k 0 ≢ 0)
-        (λ r. (k : ℕ) × (r ≡ i + k) × (k < length (c ∷ cs)) × (get_or (c ∷ cs) k 0 ≡ 0) × ((j : ℕ) → j < k → get_or (c ∷ cs) j 0 ≢ 0))
+lowest_position_from i [] = refl
+lowest_position_from i (c ∷ cs) = ap (cond (eqb c 0) (Some i)) (lowest_position_from (i + 1) cs)
 
-    behind : (P : ℕ → Type 0) → P 0 → ((k : ℕ) → P (suc k)) → (k : ℕ) → P k
-    behind P z s zero = z
-    behind P z s (suc k) = s k
+pub lowest_position : (cs : List ℕ) → position (λ c. eqb c 0) cs ≡ lowest_free cs
+lowest_position cs = position_from-zero (λ c. eqb c 0) cs ∙ sym (lowest_position_from 0 cs)
 
-    later : c ≢ 0 → (r : Option ℕ) →
-        MatchOption r ((k : ℕ) → k < length cs → get_or cs k 0 ≢ 0) (λ r. (k : ℕ) × (r ≡ i + 1 + k) × (k < length cs) × (get_or cs k 0 ≡ 0) × ((j : ℕ) → j < k → get_or cs j 0 ≢ 0)) → Tells r
-    later n None h = behind (λ k. k < length (c ∷ cs) → get_or (c ∷ cs) k 0 ≢ 0) (λ _. n) (λ k l. h k (omega arith))
-    later n (Some r) h =
-        (suc h.0, omega (arith, h.1), omega (arith, h.2), h.3, behind (λ j. j < suc h.0 → get_or (c ∷ cs) j 0 ≢ 0) (λ _. n) (λ j l. h.4 j (omega arith)))
+-- what is said of the answer r
+abbrev Tells : List ℕ → Option ℕ → Type 0
+Tells cs r = MatchOption r ((k : ℕ) → k < length cs → get_or cs k 0 ≢ 0) (λ i. (i < length cs) × (get_or cs i 0 ≡ 0) × ((k : ℕ) → k < i → get_or cs k 0 ≢ 0))
 
 pub lowest_is_free : LowestIsFree
-lowest_is_free cs = from (lowest_free cs) (lowest_tells 0 cs)
-  where
-    from : (r : Option ℕ) →
-        MatchOption r ((k : ℕ) → k < length cs → get_or cs k 0 ≢ 0) (λ r. (k : ℕ) × (r ≡ 0 + k) × (k < length cs) × (get_or cs k 0 ≡ 0) × ((j : ℕ) → j < k → get_or cs j 0 ≢ 0)) →
-        MatchOption r ((k : ℕ) → k < length cs → get_or cs k 0 ≢ 0) (λ i. (i < length cs) × (get_or cs i 0 ≡ 0) × ((k : ℕ) → k < i → get_or cs k 0 ≢ 0))
-    from None h = h
-    from (Some r) h =
-        let e : h.0 ≡ r = omega (arith, h.1) in (omega (arith, h.2), ap (λ k. get_or cs k 0) (sym e) ∙ h.3, λ k l. h.4 k (omega arith))
+lowest_is_free cs =
+    let free = λ (c : ℕ). eqb c 0 in
+    let first = position_or_len free cs in
+    let full : (k : ℕ) → k < first → get_or cs k 0 ≢ 0 = λ k l. eqb-false (get_or cs k 0) 0 (fails_before_first free cs k 0 l) in
+    subst (Tells cs) (lowest_position cs)
+    (
+    cond_both (ltb first (length cs)) (Some first) None (Tells cs)
+    (λ e. let h = ltb-true first (length cs) e in (h, eqb-true (get_or cs first 0) 0 (passes_at_first free cs 0 h), full))
+    (λ e k l. let h = ltb-false first (length cs) e in full k (omega arith))
+    )
 
 pub counts_one : CountsOne
-counts_one cs i h = (
-  λ l. get_or-set_same cs i _ 0 h ∙ (let m : min 65535 (get_or cs i 0 + 1) ≡ get_or cs i 0 + 1 = omega arith in m),
-  λ l. ap (λ n. n + 1) (get_or-set_same cs i _ 0 h) ∙ (let m : get_or cs i 0 - 1 + 1 ≡ get_or cs i 0 = omega arith in m),
-  λ j n. (get_or-set_other cs i j _ 0 n, get_or-set_other cs i j _ 0 n),
-)
+counts_one = search rules

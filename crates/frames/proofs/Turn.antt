@@ -1,7 +1,9 @@
 -- The hand, one look at a time.
 use Rattle.std.proofs.Common.{◌≡◌, ℕ, zero, suc, ◌+◌, ◌-◌, ◌<◌, ◌≤◌, ltb, ◌≢◌, ◌⊎◌, List, length, get_or, set, sym, refl, ap, ◌∙◌, subst, inl, inr, add-zero, suc-add, zero-add, arith}
-use Rattle.std.proofs.lemmas.List.{get_or-set_same, get_or-set_other, set_past, length-set}
-use Rattle.std.proofs.lemmas.Bool.{cond-true, cond-false, cond_both, eq-eqb, ne_eqb, ltb-true, lt-ltb, le-ltb, cases_eq, cases_lt}
+use Rattle.std.proofs.lemmas.List.{get_or-set_same, get_or-set_other, length-set}
+use Rattle.std.proofs.lemmas.Bool.{cond-true, cond-false, cond_both, eq-eqb, ne_eqb, ltb-true, lt-ltb, le-ltb, cases_eq}
+use Rattle.std.proofs.lemmas.Bool.Decides.{nat_tests}
+use Rattle.std.proofs.lemmas.Grind.{common_steps}
 use Rattle.frames.specs.Turn.{Turned, taken, turn_from, next_frame, frame_after, start, turn, HandGoesRound}
 
 module _ (n : ℕ) (f k : ℕ) (used : List ℕ) where
@@ -20,17 +22,11 @@ module _ (n : ℕ) (f k : ℕ) (used : List ℕ) where
   turn_ends more e = ap (λ m. turn_from n m f k used) e
 
 next_within : (n f : ℕ) → 0 < n → next_frame n f < n
-next_within n f h = cond_both (ltb (f + 1) n) (f + 1) 0 (λ m. m < n) (λ e. ltb-true (f + 1) n e) (λ _. h)
+next_within n f h = grind (arith, nat_tests)
 
 -- marks are only cleared, so what is not set stays so
 still_clear : (used : List ℕ) (f g : ℕ) → get_or used g 0 ≡ 0 → get_or (set used f 0) g 0 ≡ 0
-still_clear used f g e =
-    elim (cases_eq g f) [
-      | inl s ↦
-          elim (cases_lt f (length used))
-          [ inl h ↦ ap (λ k. get_or (set used f 0) k 0) s ∙ get_or-set_same used f 0 0 h | inr h ↦ ap (λ xs. get_or xs g 0) (set_past used f 0 h) ∙ e ]
-      | inr n ↦ get_or-set_other used f g 0 0 n ∙ e
-    ]
+still_clear used f g e = grind (arith, common_steps)
 
 -- a turn from frame f that may pass so many, by the number p of frames that it passed
 record Went (n more f k : ℕ) (used : List ℕ) (r : Turned) : Type 0 where

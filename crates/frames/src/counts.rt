@@ -7,12 +7,7 @@ pub fn lowest_free(counts: &[u16]) -> Option<usize>
     ensures value { result ≡ lowest_free counts.now }
     ensures bound { IfSome result (λ i. i < length counts.now) }
 {
-    for (i, count) in counts.iter().enumerate() {
-        if *count == 0 {
-            return Some(i);
-        }
-    }
-    None
+    counts.iter().position(|count| *count == 0)
 }
 
 // One more, but never more than the table can hold.

@@ -80,6 +80,7 @@ impl Hand {
         ensures value { turn (length used.old) self.at used.old ≡ record { frame = result.frame; rest = result.hand.at; looks = result.looks; used = used.new } }
         ensures bound { result.frame < length used.old }
     {
+        // No `find`: marks are cleared on the way, and a proof learns nothing of a closure that writes what it captures.
         let frames = used.len();
         let mut frame = first_look(frames, self.at);
         for passed in 0..frames {

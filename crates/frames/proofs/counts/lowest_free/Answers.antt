@@ -1,13 +1,10 @@
-use Rattle.std.proofs.Common.{sym, ◌∙◌, arith}
-use Rattle.frames.proofs.Lowest.{lowest_here, lowest_later, lowest_none}
+use Rattle.std.proofs.Common.{eqb, ◌∙◌, rules, tests}
+use Rattle.std.proofs.lemmas.Iterator.{YieldsList-from_slice}
+use Rattle.std.proofs.lemmas.Iterator.Search.{position_from_yields_List}
+use Rattle.frames.proofs.Lowest.{lowest_position}
 use Rattle.frames.proofs.counts.lowest_free.Goals as goal
 
-pub returns-then-count-eq0 : goal.returns-then-count-eq0
-returns-then-count-eq0 c =
-    record { value = sym (lowest_here c.args.counts.now c.loop-i.i (omega arith) (omega arith)) ∙ c.loop-i.invariant; bound = omega arith }
-
-pub loop-i-preserved : goal.loop-i-preserved
-loop-i-preserved c = sym (lowest_later c.args.counts.now c.loop-i.i (omega arith) (omega arith)) ∙ c.loop-i.invariant
-
-pub returns : goal.returns
-returns c = record { value = sym (lowest_none c.args.counts.now c.loop-i.i (omega arith)) ∙ c.loop-i.invariant; bound = tt }
+pub returns-clause-value : goal.returns-clause-value
+returns-clause-value c =
+    let counts = c.args.counts.now in
+    position_from_yields_List (λ x. eqb x 0) _ _ _ c.position.ensures.ran (YieldsList-from_slice counts cc) (λ x b q k. search (rules, tests)) ∙ lowest_position counts
