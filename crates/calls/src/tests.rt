@@ -31,7 +31,9 @@ fn memory_is_measured_first(rt: HostRuntime) {
         &mut frames,
         &mut short,
     );
-    assert!(rt; matches!(refused, Err(Refusal::Lent(Part::Disk))) && table[0] == 7 && frames[0] == 7);
+    assert!(rt;
+        matches!(refused, Err(Refusal::Lent(Part::Disk))) && table[0] == 7 && frames[0] == 7
+    );
     let opened = open(
         SIZES,
         &mut table,

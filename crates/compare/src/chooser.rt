@@ -3,10 +3,10 @@ ghost use Rattle.std.specs.Prelude.{◌<◌};
 ghost use Rattle.requests.specs.Ranges.{InRange, ranged};
 
 use crate::draws::Draws;
-use crate::mix::{Kind, Mix};
+use crate::mix::Mix;
 use crate::seen::Seen;
 use requests::answer::Answer;
-use requests::request::Call;
+use requests::request::{Call, Kind};
 use requests::sizes::Sizes;
 use std::alloc::{AllocError, Global};
 
@@ -53,11 +53,18 @@ impl Chooser {
             Kind::Fork => Call::Fork { process },
             Kind::Leave => self.leave(process),
             Kind::Map => self.map(process),
-            Kind::Drop => self.drop_page(process),
-            Kind::Make => self.make(process),
+            Kind::Drop => Call::Drop {
+                process,
+                page: self.page_or_first(process, false),
+            },
+            Kind::Make => Call::Make {
+                process,
+                page: self.page_or_first(process, true),
+            },
             Kind::Look => self.look(process),
             Kind::Load => self.load(process),
             Kind::Store => self.store(process),
+            Kind::Counts => Call::Counts,
         }
     }
 
@@ -77,24 +84,11 @@ impl Chooser {
         }
     }
 
-    fn drop_page(&mut self, process: usize) -> Call {
-        let page = self.page(process, false).unwrap_or(0);
-        Call::Drop { process, page }
-    }
-
-    fn make(&mut self, process: usize) -> Call {
-        let page = self.page(process, true).unwrap_or(0);
-        Call::Make { process, page }
-    }
-
     // At a segment, if there is one.
     fn look(&mut self, process: usize) -> Call {
-        let page = self.page(process, true).unwrap_or(0);
+        let page = self.page_or_first(process, true);
         let start = self.draws.below(1024);
-        let (from_process, from_page) = match self.seen.next_segment(start) {
-            Some(found) => found,
-            None => (process, 0),
-        };
+        let (from_process, from_page) = self.seen.next_segment(start).unwrap_or((process, 0));
         Call::Look {
             process,
             page,
@@ -103,28 +97,33 @@ impl Chooser {
         }
     }
 
-    // A process with no page gets one first.
     fn load(&mut self, process: usize) -> Call {
-        match self.page(process, false) {
-            Some(page) => Call::Load {
-                process,
-                page,
-                offset: self.offset(),
-            },
-            None => Call::Map { process, page: 0 },
+        let Some((page, offset)) = self.spot(process) else {
+            return Call::Map { process, page: 0 };
+        };
+        Call::Load {
+            process,
+            page,
+            offset,
         }
     }
 
     fn store(&mut self, process: usize) -> Call {
-        match self.page(process, false) {
-            Some(page) => Call::Store {
-                process,
-                page,
-                offset: self.offset(),
-                byte: self.draws.byte(),
-            },
-            None => Call::Map { process, page: 0 },
+        let Some((page, offset)) = self.spot(process) else {
+            return Call::Map { process, page: 0 };
+        };
+        Call::Store {
+            process,
+            page,
+            offset,
+            byte: self.draws.byte(),
         }
+    }
+
+    // Where to load or store. A process with no page gets one first.
+    fn spot(&mut self, process: usize) -> Option<(usize, usize)> {
+        let page = self.page(process, false)?;
+        Some((page, self.offset()))
     }
 
     fn process(&mut self) -> usize {
@@ -144,6 +143,10 @@ impl Chooser {
         self.seen.next_page(process, start, self.span, absent)
     }
 
+    fn page_or_first(&mut self, process: usize, absent: bool) -> usize {
+        self.page(process, absent).unwrap_or(0)
+    }
+
     fn offset(&mut self) -> usize {
         if self.is_astray() {
             return self.beyond(256);
@@ -156,10 +159,9 @@ impl Chooser {
     }
 
     fn is_astray(&mut self) -> bool {
-        match self.mix.astray() {
-            Some(often) => self.draws.one_in(often),
-            None => false,
-        }
+        self.mix
+            .astray()
+            .is_some_and(|often| self.draws.one_in(often))
     }
 
     // The first number that is out of range, or one of those after it, or the last of all.

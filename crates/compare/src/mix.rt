@@ -1,33 +1,10 @@
 // What a row is made of: which kinds of calls, on how many pages, and how often one goes astray.
-ghost use Rattle.std.specs.Prelude.{◌<◌, ◌≤◌, IfSome};
+ghost use Rattle.std.specs.Prelude.{◌≡◌, ◌%◌, ◌<◌, ◌≤◌, IfSome, slice_get};
 ghost use Rattle.requests.specs.Ranges.{InRange, ranged};
 
+use requests::request::Kind;
 use requests::sizes::Sizes;
 use std::fmt;
-
-#[derive(Clone, Copy)]
-pub enum Kind {
-    Fork,
-    Leave,
-    Map,
-    Drop,
-    Make,
-    Look,
-    Load,
-    Store,
-}
-
-// In the order of the weights of a mix.
-const KINDS: [Kind; 8] = [
-    Kind::Fork,
-    Kind::Leave,
-    Kind::Map,
-    Kind::Drop,
-    Kind::Make,
-    Kind::Look,
-    Kind::Load,
-    Kind::Store,
-];
 
 #[derive(Clone, Copy)]
 pub enum Mix {
@@ -45,40 +22,42 @@ pub enum Mix {
     Valid,
 }
 
-impl Mix {
-    // In turn.
-    pub fn of_row(number: usize) -> Mix {
-        match number % 6 {
-            0 => Mix::Fill,
-            1 => Mix::Thrash,
-            2 => Mix::Copies,
-            3 => Mix::Segments,
-            4 => Mix::Wild,
-            _ => Mix::Valid,
-        }
-    }
+const MIXES: [Mix; 6] = [
+    Mix::Fill,
+    Mix::Thrash,
+    Mix::Copies,
+    Mix::Segments,
+    Mix::Wild,
+    Mix::Valid,
+];
 
-    // How many calls in sixteen are of each kind: fork, leave, map, drop, make, look, load, store.
-    fn weights(self) -> [usize; 8] {
-        match self {
-            Mix::Fill => [1, 0, 4, 0, 1, 0, 2, 8],
-            Mix::Thrash => [1, 0, 2, 0, 1, 0, 6, 6],
-            Mix::Copies => [3, 2, 2, 1, 0, 0, 3, 5],
-            Mix::Segments => [1, 1, 1, 2, 2, 3, 3, 3],
-            Mix::Wild => [2, 2, 2, 2, 2, 2, 2, 2],
-            Mix::Valid => [1, 1, 2, 1, 1, 1, 4, 5],
-        }
+// How many calls in sixteen are of each kind, in each mix.
+const WEIGHTS: [(Kind, [usize; 6]); 8] = [
+    (Kind::Fork, [1, 1, 3, 1, 2, 1]),
+    (Kind::Leave, [0, 0, 2, 1, 2, 1]),
+    (Kind::Map, [4, 2, 2, 1, 2, 2]),
+    (Kind::Drop, [0, 0, 1, 2, 2, 1]),
+    (Kind::Make, [1, 1, 0, 2, 2, 1]),
+    (Kind::Look, [0, 0, 0, 3, 2, 1]),
+    (Kind::Load, [2, 6, 3, 3, 2, 4]),
+    (Kind::Store, [8, 6, 5, 3, 2, 5]),
+];
+
+impl Mix {
+    pub fn of_row(number: usize) -> Mix
+        ensures { slice_get MIXES (number % 6) ≡ Some result }
+    {
+        MIXES[number % MIXES.len()]
     }
 
     // The kind of a call, by a number below sixteen.
     pub fn kind(self, drawn: usize) -> Kind {
-        let weights = self.weights();
         let mut left = drawn;
-        for (kind, weight) in KINDS.iter().zip(weights.iter()) {
-            if left < *weight {
-                return *kind;
+        for (kind, weights) in &WEIGHTS {
+            match left.checked_sub(weights[self as usize]) {
+                Some(rest) => left = rest,
+                None => return *kind,
             }
-            left -= *weight;
         }
         Kind::Store
     }
@@ -111,13 +90,13 @@ impl Mix {
 
 impl fmt::Display for Mix {
     fn fmt<W: fmt::Write>(&self, f: &mut fmt::Formatter<W>) -> fmt::Result {
-        match *self {
-            Mix::Fill => f.write_str("fill"),
-            Mix::Thrash => f.write_str("thrash"),
-            Mix::Copies => f.write_str("copies"),
-            Mix::Segments => f.write_str("segments"),
-            Mix::Wild => f.write_str("wild"),
-            Mix::Valid => f.write_str("valid"),
-        }
+        f.write_str(match *self {
+            Mix::Fill => "fill",
+            Mix::Thrash => "thrash",
+            Mix::Copies => "copies",
+            Mix::Segments => "segments",
+            Mix::Wild => "wild",
+            Mix::Valid => "valid",
+        })
     }
 }

@@ -1,5 +1,5 @@
 // The manager and the machine of private memories, side by side.
-ghost use Rattle.std.specs.Prelude.{◌≤◌, length};
+ghost use Rattle.std.specs.Prelude.{◌≡◌, count_by, nat_lt};
 
 use anyhow::anyhow;
 use machine::machine::Machine as Manager;
@@ -23,19 +23,15 @@ pub struct Answers {
 
 impl Pair {
     pub fn open(heap: Global, sizes: Sizes) -> anyhow::Result<Pair> {
-        let Ok(manager) = Manager::open(heap, sizes) else {
-            return Err(anyhow!("the manager does not open"));
-        };
+        let manager = Manager::open(heap, sizes).map_err(|_| anyhow!("the manager does not open"))?;
         let private = Private::open(heap, sizes)?;
         Ok(Pair { manager, private })
     }
 
     pub fn call(&mut self, call: Call) -> anyhow::Result<Answers> {
         let manager = self.manager.call(call);
-        match self.private.call(call) {
-            Ok(private) => Ok(Answers { manager, private }),
-            Err(_) => Err(anyhow!("no memory")),
-        }
+        let private = self.private.call(call).map_err(|_| anyhow!("no memory"))?;
+        Ok(Answers { manager, private })
     }
 
     // Frames and places in use.
@@ -47,20 +43,17 @@ impl Pair {
 
     // Reads and writes of the disk. Private memories have none.
     pub fn disk(&mut self) -> Disk {
-        match self.manager.call(Call::Counts) {
-            Answer::Done(both) => Disk {
-                reads: both / 65536,
-                writes: both % 65536,
-            },
-            Answer::Fault | Answer::Full => Disk {
-                reads: 0,
-                writes: 0,
-            },
+        let Answer::Done(both) = self.manager.call(Call::Counts) else {
+            return Disk::default();
+        };
+        Disk {
+            reads: both / 65536,
+            writes: both % 65536,
         }
     }
 }
 
-#[derive(Clone, Copy)]
+#[derive(Clone, Copy, Default)]
 pub struct Disk {
     pub reads: u64,
     pub writes: u64,
@@ -68,13 +61,7 @@ pub struct Disk {
 
 // How many counts are not 0.
 fn in_use(counts: &[u16]) -> usize
-    ensures { result ≤ length counts.now }
+    ensures { result ≡ count_by (nat_lt 0) counts.now }
 {
-    let mut used: usize = 0;
-    for count in counts {
-        if *count > 0 {
-            used += 1;
-        }
-    }
-    used
+    counts.iter().filter(|count| **count > 0).count()
 }

@@ -62,11 +62,8 @@ fn draw_hold(draws: &mut Draws, least: usize) -> usize
     ensures low { least ≤ result }
     ensures high { result ≤ 512 }
 {
-    if draws.one_in(32) {
-        draws.between(least, 512)
-    } else {
-        draws.between(least, 8)
-    }
+    let most = if draws.one_in(32) { 512 } else { 8 };
+    draws.between(least, most)
 }
 
 fn draw_calls(draws: &mut Draws, sizes: Sizes) -> usize

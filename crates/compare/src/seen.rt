@@ -1,89 +1,80 @@
 // What can be seen of a machine by its answers: which processes and pages are there.
-ghost use Rattle.std.specs.Prelude.{◌<◌, IfSome, vec_len};
+ghost use Rattle.std.specs.Prelude.{◌≡◌, ◌<◌, IfSome, None, count_by, is_some, slice_get, true, unwrap_or, vec_len};
 
 use requests::request::Call;
 use requests::sizes::Sizes;
 use std::alloc::{AllocError, Global};
 
-#[derive(Clone, Copy, PartialEq, Eq)]
+// As many as a process may have.
+const PAGES: usize = 64;
+
+#[derive(Clone, Copy, PartialEq, Eq, Debug)]
 pub enum Page {
-    Absent,
     Own,
     Segment,
 }
 
-// The pages of process 0 first, then those of process 1, and so on.
+// The pages of a process, by number.
+type Pages = [Option<Page>; PAGES];
+
 #[derive(Drop)]
 pub struct Seen {
-    sizes: Sizes,
-    alive: Vec<bool>,
-    pages: Vec<Page>,
+    // how many pages a process may have
+    pages: usize,
+    // those of each process that is there
+    processes: Vec<Option<Pages>>,
 }
 
 impl Seen {
+    // Process 0 is there, with no page.
     pub fn start(heap: Global, sizes: Sizes) -> Result<Seen, AllocError> {
-        let alive = vec![in heap; false; sizes.processes]?;
-        let count = sizes.processes.saturating_mul(sizes.pages);
-        let pages = vec![in heap; Page::Absent; count]?;
-        let mut seen = Seen {
-            sizes,
-            alive,
-            pages,
-        };
-        seen.put_alive(0, true);
-        Ok(seen)
+        let mut processes = vec![in heap; None; sizes.processes]?;
+        if let Some(first) = processes.get_mut(0) {
+            *first = Some([None; PAGES]);
+        }
+        Ok(Seen {
+            pages: sizes.pages,
+            processes,
+        })
     }
 
-    fn place(&self, process: usize, page: usize) -> usize {
-        process
-            .saturating_mul(self.sizes.pages)
-            .saturating_add(page)
+    pub fn is_alive(&self, process: usize) -> bool
+        ensures { result ≡ is_some (unwrap_or (slice_get self.now.processes.items process) None) }
+    {
+        self.processes.get(process).is_some_and(|p| p.is_some())
     }
 
-    pub fn is_alive(&self, process: usize) -> bool {
-        self.alive.get(process).copied().unwrap_or(false)
+    pub fn page(&self, process: usize, page: usize) -> Option<Page> {
+        let pages = self.processes.get(process)?.as_ref()?;
+        pages.get(page).copied().flatten()
     }
 
-    pub fn page(&self, process: usize, page: usize) -> Page {
-        let place = self.place(process, page);
-        self.pages.get(place).copied().unwrap_or(Page::Absent)
+    fn slot(&mut self, process: usize, page: usize) -> Option<&mut Option<Page>> {
+        self.processes.get_mut(process)?.as_mut()?.get_mut(page)
     }
 
-    fn put_alive(&mut self, process: usize, alive: bool) {
-        if let Some(old) = self.alive.get_mut(process) {
-            *old = alive;
+    fn put(&mut self, process: usize, page: usize, new: Option<Page>) {
+        if let Some(slot) = self.slot(process, page) {
+            *slot = new;
         }
     }
 
-    fn put_page(&mut self, process: usize, page: usize, new: Page) {
-        let place = self.place(process, page);
-        if let Some(old) = self.pages.get_mut(place) {
-            *old = new;
-        }
-    }
-
-    pub fn living(&self) -> usize {
-        let mut count: usize = 0;
-        for alive in self.alive.iter() {
-            if *alive {
-                count = count.saturating_add(1);
-            }
-        }
-        count
+    pub fn living(&self) -> usize
+        ensures { result ≡ count_by is_some self.now.processes.items }
+    {
+        self.processes.iter().filter(|p| p.is_some()).count()
     }
 
     // The next process from `start` on, round and round, that is there.
     pub fn next_process(&self, start: usize) -> Option<usize>
-        ensures { IfSome result (λ process. process < vec_len self.now.alive) }
+        ensures within { IfSome result (λ process. process < vec_len self.now.processes) }
+        ensures there { IfSome result (λ process. is_some (unwrap_or (slice_get self.now.processes.items process) None) ≡ true) }
     {
-        let count = self.alive.len();
-        for i in 0..count {
-            let process = start.wrapping_add(i) % count;
-            if self.is_alive(process) {
-                return Some(process);
-            }
-        }
-        None
+        first_from(
+            start,
+            self.processes.len(),
+            |process| self.is_alive(process),
+        )
     }
 
     // The next page of a process from `start` on, round and round below `span`, that is absent or that is not.
@@ -96,52 +87,59 @@ impl Seen {
     ) -> Option<usize>
         ensures { IfSome result (λ page. page < span) }
     {
-        for i in 0..span {
-            let page = start.wrapping_add(i) % span;
-            if (self.page(process, page) == Page::Absent) == absent {
-                return Some(page);
-            }
-        }
-        None
+        first_from(start, span, |page| {
+            self.page(process, page).is_none() == absent
+        })
     }
 
     // The next process and page, counted through all from `start` on, round and round, that is a segment.
     pub fn next_segment(&self, start: usize) -> Option<(usize, usize)> {
-        let count = self.pages.len();
-        for i in 0..count {
-            let place = start.wrapping_add(i) % count;
-            if self.pages[place] == Page::Segment && self.sizes.pages > 0 {
-                return Some((place / self.sizes.pages, place % self.sizes.pages));
-            }
+        let pages = self.pages;
+        if pages == 0 {
+            return None;
         }
-        None
+        let spot = |place: usize| (place / pages, place % pages);
+        first_from(start, self.processes.len().saturating_mul(pages), |place| {
+            let (process, page) = spot(place);
+            self.page(process, page) == Some(Page::Segment)
+        })
+        .map(spot)
     }
 
     // A call was done with this number.
     pub fn note(&mut self, call: Call, number: u64) {
         match call {
-            Call::Fork { process } => self.note_fork(process, number as usize),
-            Call::Leave { process } => self.note_leave(process),
-            Call::Map { process, page } => self.put_page(process, page, Page::Own),
-            Call::Drop { process, page } => self.put_page(process, page, Page::Absent),
-            Call::Make { process, page } => self.put_page(process, page, Page::Segment),
-            Call::Look { process, page, .. } => self.put_page(process, page, Page::Segment),
+            Call::Fork { process } => self.fork(process, number as usize),
+            Call::Leave { process } => self.leave(process),
+            Call::Map { process, page } => self.put(process, page, Some(Page::Own)),
+            Call::Drop { process, page } => self.put(process, page, None),
+            Call::Make { process, page } | Call::Look { process, page, .. } => {
+                self.put(process, page, Some(Page::Segment))
+            }
             Call::Load { .. } | Call::Store { .. } | Call::Counts => {}
         }
     }
 
-    fn note_fork(&mut self, parent: usize, child: usize) {
-        self.put_alive(child, true);
-        for page in 0..self.sizes.pages {
-            let same = self.page(parent, page);
-            self.put_page(child, page, same);
+    fn fork(&mut self, parent: usize, child: usize) {
+        let pages = self.processes.get(parent).copied().flatten();
+        if let Some(there) = self.processes.get_mut(child) {
+            *there = pages;
         }
     }
 
-    fn note_leave(&mut self, process: usize) {
-        self.put_alive(process, false);
-        for page in 0..self.sizes.pages {
-            self.put_page(process, page, Page::Absent);
+    fn leave(&mut self, process: usize) {
+        if let Some(there) = self.processes.get_mut(process) {
+            *there = None;
         }
     }
+}
+
+// The first number below `count`, from `start` on, round and round, that passes.
+fn first_from<P: Fn(usize) -> bool>(start: usize, count: usize, passes: P) -> Option<usize>
+    requires { P.IsAlwaysCallable passes }
+    ensures within { IfSome result (λ n. n < count) }
+    ensures passing { IfSome result (λ n. P.post passes n true) }
+{
+    let start = start.checked_rem(count)?;
+    (start..count).chain(0..start).find(|n| passes(*n))
 }
