@@ -55,7 +55,8 @@ pub fn stores_copy()
 
 // A fork copies no byte, and the child's loads are then the parent's.
 pub fn fork_copies_nothing()
-    ensures { (ForkCopiesNothing) × (ForkChild) }
+    ensures memory { ForkCopiesNothing }
+    ensures child { ForkChild }
 {}
 
 // Full is answered exactly where all that can be held is held.
