@@ -36,11 +36,7 @@ pub fn played(heap: Global, input: &[u8]) -> Result<String, AllocError>
 fn after_head(input: &[u8]) -> &[u8]
     ensures { result.now ≡ drop 10 input.now }
 {
-    if input.len() < HEAD {
-        &input[0..0]
-    } else {
-        &input[HEAD..]
-    }
+    input.get(HEAD..).unwrap_or(&[])
 }
 
 // How many calls there are, if nothing is refused.
@@ -69,23 +65,27 @@ fn lines(heap: Global, sizes: Sizes, calls: &[u8], count: usize) -> Result<Strin
 }
 
 // A line for each call, as the machine answers it.
-fn served(heap: Global, machine: Machine, calls: &[u8], count: usize) -> Result<String, AllocError>
+fn served(
+    heap: Global,
+    mut machine: Machine,
+    calls: &[u8],
+    count: usize,
+) -> Result<String, AllocError>
     ensures { IfOk result (λ s. string_bytes s ≡ lines_from (serve (seen_sizes machine.manager.sizes)) calls.now (model machine) count 0) }
 {
-    let mut machine = machine;
     let mut text = String::new(heap);
+    // By index and not `chunks_exact`: `call_at` of requests alone reads the bytes of a call.
     for i in 0..count {
         if let Some(call) = row::call_at(calls, i) {
             let answer = machine.call(call);
-            add_line(heap, &mut text, i, answer)?;
+            add_line(&mut text, i, answer)?;
         }
     }
     Ok(text)
 }
 
-fn add_line(heap: Global, text: &mut String, i: usize, answer: Answer) -> Result<(), AllocError>
+fn add_line(text: &mut String, i: usize, answer: Answer) -> Result<(), AllocError>
     ensures { OnOk result (string_bytes text.new ≡ string_bytes text.old ++ line i (answered answer)) }
 {
-    let line = format!(in heap; "{i} {answer}\n")?;
-    text.push_str(line.as_str())
+    writeln!(text, "{i} {answer}")
 }
