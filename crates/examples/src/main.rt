@@ -16,10 +16,8 @@ fn main(rt: HostRuntime) -> anyhow::Result<()> {
 fn play(rt: &HostRuntime, name: &str) -> anyhow::Result<()> {
     let input = fs::read(rt, format!(in rt.alloc(); "{name}.row")?)?;
     let expected = fs::read_to_string(rt, format!(in rt.alloc(); "{name}.out")?)?;
-    match play::played(rt.alloc(), input.as_slice()) {
-        Ok(text) => compare(rt, name, text.as_str(), expected.as_str()),
-        Err(_) => Err(anyhow!("no memory")),
-    }
+    let text = play::played(rt.alloc(), input.as_slice()).map_err(|_| anyhow!("no memory"))?;
+    compare(rt, name, text.as_str(), expected.as_str())
 }
 
 // Says how many lines came, or from which line on they are not those that were expected.
@@ -35,13 +33,9 @@ fn compare(rt: &HostRuntime, name: &str, text: &str, expected: &str) -> anyhow::
 }
 
 // How many lines are the same in both before one differs or is missing.
-fn same_lines(text: &str, expected: &str) -> u64 {
-    let mut count = 0u64;
-    for (line, wanted) in text.lines().zip(expected.lines()) {
-        if line != wanted {
-            return count;
-        }
-        count = count.saturating_add(1);
-    }
-    count
+fn same_lines(text: &str, expected: &str) -> usize {
+    text.lines()
+        .zip(expected.lines())
+        .take_while(|(line, wanted)| line == wanted)
+        .count()
 }

@@ -1,8 +1,7 @@
 -- The manager prints what the machine of private memories prints: both are together after every call, and so answer alike.
-use Rattle.std.proofs.Common.{◌≡◌, ℕ, zero, suc, ◌+◌, ◌-◌, ◌/◌, ◌<◌, ◌≤◌, List, ◌++◌, length, drop, Some, None, Option, sym, refl, ap, arith}
+use Rattle.std.proofs.Common.{◌≡◌, ℕ, zero, suc, ◌+◌, ◌-◌, ◌/◌, ◌<◌, ◌≤◌, List, ◌++◌, length, drop, Some, None, Option, refl, ap, arith}
 use Rattle.fold.specs.Fold as fold
 use Rattle.frames.specs.Turn.{turn}
-use Rattle.lookaside.proofs.Options.{none≢some}
 use Rattle.requests.specs.Meaning.{Asked, asked, calls, counts, seen_sizes}
 use Rattle.requests.specs.Ranges.{ranged, sizes_of, sizes_refusal}
 use Rattle.requests.specs.Refusals.{either_refusal}
@@ -44,7 +43,7 @@ module _ (z : fold.Sizes) (frames : ℕ) (usable : Usable turn frames) (row : Li
 
 either_none : (a b : Option Refusal) → either_refusal a b ≡ None → a ≡ None
 either_none None b e = refl
-either_none (Some f) b e = absurd (none≢some _ (sym e))
+either_none (Some f) b e = cc
 
 -- the lines of a row of a machine whose sizes are in range
 row_same : (z : Sizes) (row : List ℕ) (n : ℕ) → sizes_refusal z ≡ None → lines_from (serve (seen_sizes z)) row (first (seen_sizes z) z.frames z.places) n 0 ≡ seen_lines z row n

@@ -7,11 +7,7 @@ use std::io::{Read, Write};
 fn main(rt: HostRuntime) -> anyhow::Result<()> {
     let mut input = Vec::new(rt.alloc());
     rt.stdin().read_to_end(&mut input)?;
-    match play::played(rt.alloc(), input.as_slice()) {
-        Ok(text) => {
-            rt.stdout().write_all(text.as_bytes())?;
-            Ok(())
-        }
-        Err(_) => Err(anyhow!("no memory")),
-    }
+    let text = play::played(rt.alloc(), input.as_slice()).map_err(|_| anyhow!("no memory"))?;
+    rt.stdout().write_all(text.as_bytes())?;
+    Ok(())
 }
