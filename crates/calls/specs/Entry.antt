@@ -45,6 +45,17 @@ pub record Roomy (z : Sizes) (m : Lent) : Type 0 where
   pub frames : z.frames * 256 ≤ length m.frames
   pub disk : z.places * 256 ≤ length m.disk
 
+-- lent memory is exactly as long as the sizes say
+pub record ExactLent (z : Sizes) (m : Lent) : Type 0 where
+  pub table : length m.table ≡ z.processes * z.pages
+  pub segments : length m.segments ≡ z.segments
+  pub lookers : length m.lookers ≡ z.segments
+  pub frame_counts : length m.frame_counts ≡ z.frames
+  pub used : length m.used ≡ z.frames
+  pub place_counts : length m.place_counts ≡ z.places
+  pub frames : length m.frames ≡ z.frames * 256
+  pub disk : length m.disk ≡ z.places * 256
+
 -- the part of lent memory that the machine has
 abbrev pub cut_lent : Sizes → Lent → Lent
 cut_lent z m =

@@ -6,9 +6,9 @@ use Rattle.requests.specs.Ranges.{InRange, ranged}
 use Rattle.requests.specs.declared.answer.Answer.{Answer}
 use Rattle.requests.specs.declared.sizes.Sizes.{Sizes}
 use Rattle.tables.specs.declared.entry.Limits.{Limits}
-use Rattle.tables.specs.Cells.{Held}
-use Rattle.tables.specs.Rows.{entry_of, rows}
 use Rattle.tables.specs.State.{Lent}
+use Rattle.disk.specs.declared.memory.Memory.{Memory}
+use Rattle.disk.specs.Memory.{fixed, whole_of}
 use Rattle.disk.specs.Whole.{whole}
 use Rattle.calls.specs.declared.manager.Manager.{Manager}
 use Rattle.calls.specs.Calls as rule
@@ -27,22 +27,28 @@ machine g m =
       whole = whole (limits_of g.sizes) g.sizes.pages g.sizes.processes g.registers m;
     }
 
--- the answer, the record and lent memory are then those of the call
-pub record Serves (g : Manager) (m : Lent) (c : fold.Call) (r : Manager × Answer) (after : Lent) : Type 0 where
-  pub same : r.0.sizes ≡ g.sizes
-  pub serves : ◌≡◌ {A = Machine × fold.Answer} (machine r.0 after, answered r.1) (rule.calls (seen_sizes g.sizes) (machine g m) c)
+-- the same, with memory that fits the machine
+abbrev pub machine_of : Manager → Memory → Machine
+machine_of g m =
+    record {
+      frames = m.limits.frames;
+      alive = take g.sizes.processes g.alive;
+      whole = whole_of g.registers m;
+    }
 
--- sizes in range, and tables that are exactly as long as they say
-pub record Fits (z : Sizes) (table segments frame_counts place_counts : List ℕ) : Type 0 where
+-- sizes in range, and memory of exactly these sizes
+pub record Fits (z : Sizes) (m : Memory) : Type 0 where
   pub range : InRange (ranged z)
-  pub table_length : length table ≡ z.processes * z.pages
-  pub segments_length : length segments ≡ z.segments
-  pub frame_counts_length : length frame_counts ≡ z.frames
-  pub place_counts_length : length place_counts ≡ z.places
+  pub limits : m.limits ≡ limits_of z
+  pub processes : m.processes ≡ z.processes
+  pub pages : m.pages ≡ z.pages
+  pub lookers : length m.lent.lookers.now ≡ z.segments
 
--- what page v of p is, by the lent table
-abbrev pub table_holds : Sizes → List ℕ → ℕ → ℕ → Held
-table_holds z table p v = (entry_of (rows (limits_of z) z.pages z.processes table) p v).holds
+-- the answer, the record and memory are then those of the call
+pub record Serves (g : Manager) (m : Memory) (c : fold.Call) (r : Manager × Answer) (after : Memory) : Type 0 where
+  pub same : r.0.sizes ≡ g.sizes
+  pub fixed : fixed after ≡ fixed m
+  pub serves : ◌≡◌ {A = Machine × fold.Answer} (machine_of r.0 after, answered r.1) (rule.calls (seen_sizes g.sizes) (machine_of g m) c)
 
 -- page v of p may be asked for, by the record
 abbrev pub record_inside : Manager → ℕ → ℕ → Bool
@@ -53,6 +59,13 @@ abbrev pub serve : fold.Sizes → Machine → Asked → Machine × fold.Answer
 serve z m (calls k) = rule.calls z m k
 serve z m counts = (m, counts_answer m)
 
+-- the same of what was asked
+pub record ServesAsked (g : Manager) (m : Memory) (a : Asked) (r : Manager × Answer) (after : Memory) : Type 0 where
+  pub same : r.0.sizes ≡ g.sizes
+  pub fixed : fixed after ≡ fixed m
+  pub served : ◌≡◌ {A = Machine × fold.Answer} (machine_of r.0 after, answered r.1) (serve (seen_sizes g.sizes) (machine_of g m) a)
+
+-- and of lent memory of exactly these sizes
 pub record Served (g : Manager) (m : Lent) (a : Asked) (r : Manager × Answer) (after : Lent) : Type 0 where
   pub same : r.0.sizes ≡ g.sizes
   pub served : ◌≡◌ {A = Machine × fold.Answer} (machine r.0 after, answered r.1) (serve (seen_sizes g.sizes) (machine g m) a)

@@ -1,110 +1,102 @@
 // The calls that change one entry: map, drop, look.
-ghost use Rattle.std.specs.Prelude.{◌≡◌, ℕ, List, length};
+ghost use Rattle.std.specs.Prelude.{◌≡◌, ◌<◌, length};
 ghost use Rattle.fold.specs.Fold as fold;
-ghost use Rattle.disk.specs.Moves.{lent};
+ghost use Rattle.disk.specs.Memory.{fixed, state_of};
+ghost use Rattle.segments.specs.Release.{dropped, looked};
 ghost use Rattle.calls.specs.Memory.{Fits, Serves};
 
 use crate::manager::Manager;
-use crate::page::{has_page, lacks_page, limits, settle, target_of};
+use disk::memory::Memory;
 use requests::answer::Answer;
 use segments::release;
-use tables::entry::{Entry, Limits, Target};
-use tables::table;
+use tables::entry::{Entry, Target};
 
 // The page becomes the process's own, all zeros. The page of zeros is not held, and marked from the start: a store gives it a page of its own.
 pub(crate) fn map(
     manager: Manager,
-    table: &mut [u16],
-    segments: &[u16],
-    frame_counts: &[u16],
-    place_counts: &[u16],
+    memory: &mut Memory<'_>,
     process: usize,
     page: usize,
 ) -> (Manager, Answer)
-    requires { Fits manager.sizes table.old segments.now frame_counts.now place_counts.now }
-    ensures { (lookers used frames disk : List ℕ) → Serves manager (lent table.old segments.now lookers frame_counts.now used place_counts.now frames disk) (fold.map process page) result (lent table.new segments.now lookers frame_counts.now used place_counts.now frames disk) }
+    requires { Fits manager.sizes memory.old }
+    ensures { Serves manager memory.old (fold.map process page) result memory.new }
 {
-    if !lacks_page(manager, table, process, page) {
+    if !manager.lacks_page(memory, process, page) {
         return (manager, Answer::Fault);
     }
-    table::write(
-        table,
-        manager.sizes.pages,
-        process,
-        page,
-        Entry {
-            target: Target::Zero,
-            copy: true,
-        },
-    );
-    let manager = settle(manager, table, segments, frame_counts, place_counts);
-    (manager, Answer::Done(0))
+    let entry = Entry {
+        target: Target::Zero,
+        copy: true,
+    };
+    memory.set_entry(process, page, entry);
+    (manager.settled(memory), Answer::Done(0))
+}
+
+// The page is dropped, whatever it is.
+pub(crate) fn drop_at(memory: &mut Memory<'_>, process: usize, page: usize)
+    requires process_within { process < memory.old.processes }
+    requires page_within { page < memory.old.pages }
+    requires lookers { length memory.old.lent.lookers.now ≡ memory.old.limits.segments }
+    ensures fixed { fixed memory.new ≡ fixed memory.old }
+    ensures dropped { state_of memory.new ≡ dropped (state_of memory.old) process page }
+{
+    let limits = memory.limits;
+    let pages = memory.pages;
+    release::drop_page(&mut memory.lent, limits, pages, process, page);
+}
+
+// The page looks at a segment.
+fn look_at(memory: &mut Memory<'_>, process: usize, page: usize, segment: usize)
+    requires process_within { process < memory.old.processes }
+    requires page_within { page < memory.old.pages }
+    requires segment_within { segment < memory.old.limits.segments }
+    requires lookers { length memory.old.lent.lookers.now ≡ memory.old.limits.segments }
+    ensures fixed { fixed memory.new ≡ fixed memory.old }
+    ensures looked { state_of memory.new ≡ looked (state_of memory.old) process page segment }
+{
+    let limits = memory.limits;
+    let pages = memory.pages;
+    release::look(&mut memory.lent, limits, pages, process, page, segment);
 }
 
 // The page is absent, and what it was has one user less.
 pub(crate) fn drop_page(
     manager: Manager,
-    table: &mut [u16],
-    segments: &mut [u16],
-    lookers: &mut [u16],
-    frame_counts: &mut [u16],
-    place_counts: &mut [u16],
+    memory: &mut Memory<'_>,
     process: usize,
     page: usize,
 ) -> (Manager, Answer)
-    requires fits { Fits manager.sizes table.old segments.old frame_counts.old place_counts.old }
-    requires lookers { length lookers.old ≡ manager.sizes.segments }
-    ensures { (used frames disk : List ℕ) → Serves manager (lent table.old segments.old lookers.old frame_counts.old used place_counts.old frames disk) (fold.drop process page) result (lent table.new segments.new lookers.new frame_counts.new used place_counts.new frames disk) }
+    requires { Fits manager.sizes memory.old }
+    ensures { Serves manager memory.old (fold.drop process page) result memory.new }
 {
-    if !has_page(manager, table, process, page) {
+    if !manager.has_page(memory, process, page) {
         return (manager, Answer::Fault);
     }
-    let limits = limits!(manager.sizes);
-    let pages = manager.sizes.pages;
-    release::drop_page(
-        table,
-        segments,
-        lookers,
-        frame_counts,
-        place_counts,
-        limits,
-        pages,
-        process,
-        page,
-    );
-    let manager = settle(manager, table, segments, frame_counts, place_counts);
-    (manager, Answer::Done(0))
+    drop_at(memory, process, page);
+    (manager.settled(memory), Answer::Done(0))
 }
 
 // The page becomes the segment that page `from_page` of `from_process` is.
 pub(crate) fn look(
     manager: Manager,
-    table: &mut [u16],
-    segments: &[u16],
-    lookers: &mut [u16],
-    frame_counts: &[u16],
-    place_counts: &[u16],
+    memory: &mut Memory<'_>,
     process: usize,
     page: usize,
     from_process: usize,
     from_page: usize,
 ) -> (Manager, Answer)
-    requires fits { Fits manager.sizes table.old segments.now frame_counts.now place_counts.now }
-    requires lookers { length lookers.old ≡ manager.sizes.segments }
-    ensures { (used frames disk : List ℕ) → Serves manager (lent table.old segments.now lookers.old frame_counts.now used place_counts.now frames disk) (fold.look process page from_process from_page) result (lent table.new segments.now lookers.new frame_counts.now used place_counts.now frames disk) }
+    requires { Fits manager.sizes memory.old }
+    ensures { Serves manager memory.old (fold.look process page from_process from_page) result memory.new }
 {
-    if !lacks_page(manager, table, process, page) {
+    if !manager.lacks_page(memory, process, page) {
         return (manager, Answer::Fault);
     }
     if !manager.has(from_process, from_page) {
         return (manager, Answer::Fault);
     }
-    let Target::Segment(segment) = target_of(manager, table, from_process, from_page) else {
+    let Target::Segment(segment) = memory.entry(from_process, from_page).target else {
         return (manager, Answer::Fault);
     };
-    let limits = limits!(manager.sizes);
-    let pages = manager.sizes.pages;
-    release::look(table, lookers, limits, pages, process, page, segment);
-    let manager = settle(manager, table, segments, frame_counts, place_counts);
-    (manager, Answer::Done(segment as u64))
+    look_at(memory, process, page, segment);
+    (manager.settled(memory), Answer::Done(segment as u64))
 }

@@ -1,18 +1,76 @@
 // The thin entry: it is lent the record and all memory, and hands exactly the machine's part of it to the core.
+ghost use Rattle.std.specs.Prelude.{◌≡◌, []};
 ghost use Rattle.requests.specs.Meaning.{asked};
-ghost use Rattle.disk.specs.Moves.{lent};
+ghost use Rattle.requests.specs.Ranges.{InRange, ranged};
 ghost use Rattle.requests.specs.Row.{call_of_numbers};
-ghost use Rattle.calls.specs.Entry.{Called, entry_refusal, Numbered};
+ghost use Rattle.tables.specs.Lent.{lists, shape};
+ghost use Rattle.disk.specs.Moves as moves;
+ghost use Rattle.calls.specs.Entry.{Called, entry_refusal, ExactLent, Numbered};
+ghost use Rattle.calls.specs.Memory.{Served};
 
 use crate::lent::admit;
 use crate::manager::Manager;
 use crate::serve::serve;
+use disk::memory::Memory;
 use requests::answer::{Answer, Refusal};
 use requests::request::Call;
+use std::mem;
+use tables::entry::Limits;
+use tables::lent::Lent;
 
-// Answers a call. Lent memory may be longer than the machine needs, and may hold anything: the call is answered, and nothing outside is touched.
-pub fn call(
-    manager: &mut Manager,
+// Slices of no length.
+fn nothing<'a>() -> Lent<'a>
+    ensures { lists result ≡ moves.lent [] [] [] [] [] [] [] [] }
+{
+    Lent {
+        table: &mut [],
+        segments: &mut [],
+        lookers: &mut [],
+        frame_counts: &mut [],
+        used: &mut [],
+        place_counts: &mut [],
+        frames: &mut [],
+        disk: &mut [],
+    }
+}
+
+// Answers a call on lent memory that is exactly as long as the sizes say. The slices are taken out of what was lent and put back, since memory owns
+// its slices.
+fn serve_lent(manager: Manager, lent: &mut Lent<'_>, call: Call) -> (Manager, Answer)
+    requires range { InRange (ranged manager.sizes) }
+    requires exact { ExactLent manager.sizes (lists lent.old) }
+    ensures served { Served manager (lists lent.old) (asked call) result (lists lent.new) }
+    ensures kept { shape lent.new ≡ shape lent.old }
+    ensures same_table { lent.new.table.ghost_name ≡ lent.old.table.ghost_name }
+    ensures same_segments { lent.new.segments.ghost_name ≡ lent.old.segments.ghost_name }
+    ensures same_lookers { lent.new.lookers.ghost_name ≡ lent.old.lookers.ghost_name }
+    ensures same_frame_counts { lent.new.frame_counts.ghost_name ≡ lent.old.frame_counts.ghost_name }
+    ensures same_used { lent.new.used.ghost_name ≡ lent.old.used.ghost_name }
+    ensures same_place_counts { lent.new.place_counts.ghost_name ≡ lent.old.place_counts.ghost_name }
+    ensures same_frames { lent.new.frames.ghost_name ≡ lent.old.frames.ghost_name }
+    ensures same_disk { lent.new.disk.ghost_name ≡ lent.old.disk.ghost_name }
+{
+    let sizes = manager.sizes;
+    let mut memory = Memory {
+        limits: Limits {
+            frames: sizes.frames,
+            places: sizes.places,
+            segments: sizes.segments,
+        },
+        processes: sizes.processes,
+        pages: sizes.pages,
+        lent: mem::replace(lent, nothing()),
+    };
+    let served = serve(manager, &mut memory, call);
+    let Memory { lent: back, .. } = memory;
+    *lent = back;
+    served
+}
+
+// The same on slices, which the entry cuts off longer ones. Each is a parameter of its own: the check does not follow a part of a slice into a
+// struct.
+fn serve_cut(
+    manager: Manager,
     table: &mut [u16],
     segments: &mut [u16],
     lookers: &mut [u16],
@@ -22,13 +80,12 @@ pub fn call(
     frames: &mut [u8],
     disk: &mut [u8],
     call: Call,
-) -> Result<Answer, Refusal>
-    ensures { Called (entry_refusal manager.old.sizes (lent table.old segments.old lookers.old frame_counts.old used.old place_counts.old frames.old disk.old)) manager.old (lent table.old segments.old lookers.old frame_counts.old used.old place_counts.old frames.old disk.old) (asked call) result manager.new (lent table.new segments.new lookers.new frame_counts.new used.new place_counts.new frames.new disk.new) }
+) -> (Manager, Answer)
+    requires range { InRange (ranged manager.sizes) }
+    requires exact { ExactLent manager.sizes (moves.lent table.old segments.old lookers.old frame_counts.old used.old place_counts.old frames.old disk.old) }
+    ensures { Served manager (moves.lent table.old segments.old lookers.old frame_counts.old used.old place_counts.old frames.old disk.old) (asked call) result (moves.lent table.new segments.new lookers.new frame_counts.new used.new place_counts.new frames.new disk.new) }
 {
-    let record = *manager;
-    let sizes = record.sizes;
-    if let Err(refusal) = admit(
-        sizes,
+    let mut lent = Lent {
         table,
         segments,
         lookers,
@@ -37,23 +94,35 @@ pub fn call(
         place_counts,
         frames,
         disk,
-    ) {
-        return Err(refusal);
-    }
-    let cells = sizes.processes * sizes.pages;
-    let segment_count = sizes.segments;
-    let frame_count = sizes.frames;
-    let place_count = sizes.places;
-    let (record, answer) = serve(
+    };
+    serve_lent(manager, &mut lent, call)
+}
+
+// Answers a call. Lent memory may be longer than the machine needs, and may hold anything: the call is answered, and nothing outside is touched.
+pub fn call(manager: &mut Manager, lent: &mut Lent<'_>, call: Call) -> Result<Answer, Refusal>
+    ensures called { Called (entry_refusal manager.old.sizes (lists lent.old)) manager.old (lists lent.old) (asked call) result manager.new (lists lent.new) }
+    ensures same_table { lent.new.table.ghost_name ≡ lent.old.table.ghost_name }
+    ensures same_segments { lent.new.segments.ghost_name ≡ lent.old.segments.ghost_name }
+    ensures same_lookers { lent.new.lookers.ghost_name ≡ lent.old.lookers.ghost_name }
+    ensures same_frame_counts { lent.new.frame_counts.ghost_name ≡ lent.old.frame_counts.ghost_name }
+    ensures same_used { lent.new.used.ghost_name ≡ lent.old.used.ghost_name }
+    ensures same_place_counts { lent.new.place_counts.ghost_name ≡ lent.old.place_counts.ghost_name }
+    ensures same_frames { lent.new.frames.ghost_name ≡ lent.old.frames.ghost_name }
+    ensures same_disk { lent.new.disk.ghost_name ≡ lent.old.disk.ghost_name }
+{
+    let record = *manager;
+    let sizes = record.sizes;
+    admit(sizes, lent)?;
+    let (record, answer) = serve_cut(
         record,
-        &mut table[0..cells],
-        &mut segments[0..segment_count],
-        &mut lookers[0..segment_count],
-        &mut frame_counts[0..frame_count],
-        &mut used[0..frame_count],
-        &mut place_counts[0..place_count],
-        &mut frames[0..frame_count * 256],
-        &mut disk[0..place_count * 256],
+        &mut lent.table[0..sizes.processes * sizes.pages],
+        &mut lent.segments[0..sizes.segments],
+        &mut lent.lookers[0..sizes.segments],
+        &mut lent.frame_counts[0..sizes.frames],
+        &mut lent.used[0..sizes.frames],
+        &mut lent.place_counts[0..sizes.places],
+        &mut lent.frames[0..sizes.frames * 256],
+        &mut lent.disk[0..sizes.places * 256],
         call,
     );
     *manager = record;
@@ -63,35 +132,25 @@ pub fn call(
 // Answers a call that numbers of any size say. A kind that is none is refused; whatever else is out of range is a fault.
 pub fn call_by_numbers(
     manager: &mut Manager,
-    table: &mut [u16],
-    segments: &mut [u16],
-    lookers: &mut [u16],
-    frame_counts: &mut [u16],
-    used: &mut [u16],
-    place_counts: &mut [u16],
-    frames: &mut [u8],
-    disk: &mut [u8],
+    lent: &mut Lent<'_>,
     kind: usize,
     process: usize,
     page: usize,
     third: usize,
     fourth: usize,
 ) -> Result<Answer, Refusal>
-    ensures { Numbered (call_of_numbers kind process page third fourth) manager.old (lent table.old segments.old lookers.old frame_counts.old used.old place_counts.old frames.old disk.old) result manager.new (lent table.new segments.new lookers.new frame_counts.new used.new place_counts.new frames.new disk.new) }
+    ensures numbered { Numbered (call_of_numbers kind process page third fourth) manager.old (lists lent.old) result manager.new (lists lent.new) }
+    ensures same_table { lent.new.table.ghost_name ≡ lent.old.table.ghost_name }
+    ensures same_segments { lent.new.segments.ghost_name ≡ lent.old.segments.ghost_name }
+    ensures same_lookers { lent.new.lookers.ghost_name ≡ lent.old.lookers.ghost_name }
+    ensures same_frame_counts { lent.new.frame_counts.ghost_name ≡ lent.old.frame_counts.ghost_name }
+    ensures same_used { lent.new.used.ghost_name ≡ lent.old.used.ghost_name }
+    ensures same_place_counts { lent.new.place_counts.ghost_name ≡ lent.old.place_counts.ghost_name }
+    ensures same_frames { lent.new.frames.ghost_name ≡ lent.old.frames.ghost_name }
+    ensures same_disk { lent.new.disk.ghost_name ≡ lent.old.disk.ghost_name }
 {
     match Call::from_numbers(kind, process, page, third, fourth) {
-        Some(request) => call(
-            manager,
-            table,
-            segments,
-            lookers,
-            frame_counts,
-            used,
-            place_counts,
-            frames,
-            disk,
-            request,
-        ),
+        Some(request) => call(manager, lent, request),
         None => Err(Refusal::Kind(0)),
     }
 }

@@ -39,13 +39,9 @@ impl Manager {
         ensures value { result ≡ lowest_absent 0 (take self.sizes.processes self.alive) }
         ensures within { IfSome result (λ p. p < self.sizes.processes) }
     {
-        let processes = self.sizes.processes;
-        for process in 0..processes {
-            if !self.alive[process] {
-                return Some(process);
-            }
-        }
-        None
+        self.alive[..self.sizes.processes]
+            .iter()
+            .position(|there| !*there)
     }
 
     // The record once a process has come or gone.
@@ -53,17 +49,8 @@ impl Manager {
         requires { process < 16 }
         ensures { result ≡ record { sizes = self.sizes; alive = slice_set self.alive process there; registers = self.registers } }
     {
-        let Manager {
-            sizes,
-            alive,
-            registers,
-        } = self;
-        let mut alive = alive;
+        let mut alive = self.alive;
         alive[process] = there;
-        Manager {
-            sizes,
-            alive,
-            registers,
-        }
+        Manager { alive, ..self }
     }
 }

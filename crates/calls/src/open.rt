@@ -1,7 +1,7 @@
 // Opening: from sizes and lent memory to a manager.
 ghost use Rattle.std.specs.Prelude.{◌≡◌, ◌-◌, true, false, ◌∷◌, take, replicate, None};
 ghost use Rattle.requests.specs.Ranges.{InRange, ranged};
-ghost use Rattle.disk.specs.Moves.{lent};
+ghost use Rattle.tables.specs.Lent.{lists};
 ghost use Rattle.calls.specs.Entry.{entry_refusal, Opened};
 
 use crate::lent::admit;
@@ -11,6 +11,7 @@ use frames::hand::Hand;
 use lookaside::slots::Lookaside;
 use requests::answer::Refusal;
 use requests::sizes::Sizes;
+use tables::lent::Lent;
 
 // The record at the start: process 0 is there, the hand rests at frame 0, nothing was read or written, no slot is taken.
 fn start(sizes: Sizes) -> Manager
@@ -38,43 +39,25 @@ fn start(sizes: Sizes) -> Manager
 
 // Opens a manager over lent memory, which may be longer than the machine needs. All pages are absent and all memory is zeros then: 0 is the number of an absent
 // entry, of a count of nobody, and of a frame that was not used. The rest of lent memory is not touched.
-pub fn open(
-    sizes: Sizes,
-    table: &mut [u16],
-    segments: &mut [u16],
-    lookers: &mut [u16],
-    frame_counts: &mut [u16],
-    used: &mut [u16],
-    place_counts: &mut [u16],
-    frames: &mut [u8],
-    disk: &mut [u8],
-) -> Result<Manager, Refusal>
-    ensures { Opened (entry_refusal sizes (lent table.old segments.old lookers.old frame_counts.old used.old place_counts.old frames.old disk.old)) sizes (lent table.old segments.old lookers.old frame_counts.old used.old place_counts.old frames.old disk.old) result (lent table.new segments.new lookers.new frame_counts.new used.new place_counts.new frames.new disk.new) }
+pub fn open(sizes: Sizes, lent: &mut Lent<'_>) -> Result<Manager, Refusal>
+    ensures opened { Opened (entry_refusal sizes (lists lent.old)) sizes (lists lent.old) result (lists lent.new) }
+    ensures same_table { lent.new.table.ghost_name ≡ lent.old.table.ghost_name }
+    ensures same_segments { lent.new.segments.ghost_name ≡ lent.old.segments.ghost_name }
+    ensures same_lookers { lent.new.lookers.ghost_name ≡ lent.old.lookers.ghost_name }
+    ensures same_frame_counts { lent.new.frame_counts.ghost_name ≡ lent.old.frame_counts.ghost_name }
+    ensures same_used { lent.new.used.ghost_name ≡ lent.old.used.ghost_name }
+    ensures same_place_counts { lent.new.place_counts.ghost_name ≡ lent.old.place_counts.ghost_name }
+    ensures same_frames { lent.new.frames.ghost_name ≡ lent.old.frames.ghost_name }
+    ensures same_disk { lent.new.disk.ghost_name ≡ lent.old.disk.ghost_name }
 {
-    if let Err(refusal) = admit(
-        sizes,
-        table,
-        segments,
-        lookers,
-        frame_counts,
-        used,
-        place_counts,
-        frames,
-        disk,
-    ) {
-        return Err(refusal);
-    }
-    let cells = sizes.processes * sizes.pages;
-    let segment_count = sizes.segments;
-    let frame_count = sizes.frames;
-    let place_count = sizes.places;
-    table[0..cells].fill(0);
-    segments[0..segment_count].fill(0);
-    lookers[0..segment_count].fill(0);
-    frame_counts[0..frame_count].fill(0);
-    used[0..frame_count].fill(0);
-    place_counts[0..place_count].fill(0);
-    frames[0..frame_count * 256].fill(0);
-    disk[0..place_count * 256].fill(0);
+    admit(sizes, lent)?;
+    lent.table[0..sizes.processes * sizes.pages].fill(0);
+    lent.segments[0..sizes.segments].fill(0);
+    lent.lookers[0..sizes.segments].fill(0);
+    lent.frame_counts[0..sizes.frames].fill(0);
+    lent.used[0..sizes.frames].fill(0);
+    lent.place_counts[0..sizes.places].fill(0);
+    lent.frames[0..sizes.frames * 256].fill(0);
+    lent.disk[0..sizes.places * 256].fill(0);
     Ok(start(sizes))
 }

@@ -1,278 +1,121 @@
 // The call that stores a byte.
-ghost use Rattle.std.specs.Prelude.{◌≡◌, ℕ, ◌*◌, ◌<◌, List, length};
+ghost use Rattle.std.specs.Prelude.{◌≡◌, ◌<◌};
 ghost use Rattle.fold.specs.Fold as fold;
 ghost use Rattle.frames.specs.Turn.{turn};
 ghost use Rattle.requests.specs.Meaning.{answered};
-ghost use Rattle.requests.specs.Ranges.{InRange, ranged};
-ghost use Rattle.disk.specs.Moves.{lent};
-ghost use Rattle.disk.specs.Whole.{Exact};
+ghost use Rattle.disk.specs.Memory.{fixed};
+ghost use Rattle.copies.specs.Asked.{Inside};
 ghost use Rattle.calls.specs.Calls.{own_store, segment_store, store_hit, stored_in, walked_store};
 ghost use Rattle.calls.specs.Machine.{Machine};
-ghost use Rattle.calls.specs.Memory.{limits_of, machine, Serves};
+ghost use Rattle.calls.specs.Memory.{Fits, machine_of, Serves};
 
 use crate::manager::Manager;
-use crate::page::{limits, target_of};
-use crate::slot::{free_slot_of, remember};
 use copies::own;
-use frames::hand::mark;
-use frames::memory;
+use copies::stores::Store;
+use disk::memory::Memory;
 use lookaside::slots::Slot;
 use requests::answer::Answer;
 use segments::reach::store_to_segment;
-use tables::entry::{Limits, Target};
+use tables::entry::Target;
 
 // Stores where the look-aside table says: no page table is read.
 fn store_hit(
     manager: Manager,
-    used: &mut [u16],
-    frames: &mut [u8],
+    memory: &mut Memory<'_>,
     slot: Slot,
-    offset: usize,
-    byte: u8,
+    store: Store,
 ) -> (Manager, Answer)
-    requires used { length used.old ≡ manager.sizes.frames }
-    requires frames { length frames.old ≡ manager.sizes.frames * 256 }
-    requires frame_within { slot.frame < manager.sizes.frames }
-    requires offset_within { offset < 256 }
+    requires frame_within { slot.frame < memory.old.limits.frames }
+    requires offset_within { store.offset < 256 }
     ensures same { result.0 ≡ manager }
-    ensures value { (table segments lookers counts places disk : List ℕ) → ◌≡◌ {A = Machine × fold.Answer} (machine result.0 (lent table segments lookers counts used.new places frames.new disk), answered result.1) (store_hit (machine manager (lent table segments lookers counts used.old places frames.old disk)) offset byte slot) }
+    ensures fixed { fixed memory.new ≡ fixed memory.old }
+    ensures value { ◌≡◌ {A = Machine × fold.Answer} (machine_of result.0 memory.new, answered result.1) (store_hit (machine_of manager memory.old) store.offset store.byte slot) }
 {
-    memory::store(frames, slot.frame, offset, byte);
-    mark(used, slot.frame);
+    memory.store(slot.frame, store.offset, store.byte);
+    memory.mark(slot.frame);
     (manager, Answer::Done(0))
 }
 
 // A byte was stored in a frame: the frame was used, and the next store there needs no copy.
-fn wrote(
-    manager: Manager,
-    used: &mut [u16],
-    process: usize,
-    page: usize,
-    frame: usize,
-) -> (Manager, Answer)
-    requires used { length used.old ≡ manager.sizes.frames }
-    requires frame_within { frame < manager.sizes.frames }
+fn wrote(manager: Manager, memory: &mut Memory<'_>, store: Store, frame: usize) -> (Manager, Answer)
+    requires { frame < memory.old.limits.frames }
     ensures same { result.0.sizes ≡ manager.sizes }
-    ensures value { (table segments lookers counts places frames disk : List ℕ) → ◌≡◌ {A = Machine × fold.Answer} (machine result.0 (lent table segments lookers counts used.new places frames disk), answered result.1) (stored_in (machine manager (lent table segments lookers counts used.old places frames disk)) process page (machine manager (lent table segments lookers counts used.old places frames disk)).whole frame) }
+    ensures fixed { fixed memory.new ≡ fixed memory.old }
+    ensures value { ◌≡◌ {A = Machine × fold.Answer} (machine_of result.0 memory.new, answered result.1) (stored_in (machine_of manager memory.old) store.process store.page (machine_of manager memory.old).whole frame) }
 {
-    mark(used, frame);
+    memory.mark(frame);
     let slot = Slot {
-        process,
-        page,
+        process: store.process,
+        page: store.page,
         frame,
         free: true,
     };
-    (remember(manager, slot), Answer::Done(0))
+    (manager.remember(slot), Answer::Done(0))
 }
 
 // Stores to an own page: in place where nobody else has it, else in a page of its own.
-fn store_own(
-    manager: Manager,
-    table: &mut [u16],
-    segments: &mut [u16],
-    frame_counts: &mut [u16],
-    used: &mut [u16],
-    place_counts: &mut [u16],
-    frames: &mut [u8],
-    disk: &mut [u8],
-    process: usize,
-    page: usize,
-    offset: usize,
-    byte: u8,
-) -> (Manager, Answer)
-    requires range { InRange (ranged manager.sizes) }
-    requires exact { Exact (limits_of manager.sizes) manager.sizes.pages manager.sizes.processes table.old segments.old frame_counts.old used.old place_counts.old frames.old disk.old }
-    requires process_within { process < manager.sizes.processes }
-    requires page_within { page < manager.sizes.pages }
-    requires offset_within { offset < 256 }
+fn store_own(manager: Manager, memory: &mut Memory<'_>, store: Store) -> (Manager, Answer)
+    requires { Inside memory.old.processes memory.old.pages store }
     ensures same { result.0.sizes ≡ manager.sizes }
-    ensures value { (lookers : List ℕ) → ◌≡◌ {A = Machine × fold.Answer} (machine result.0 (lent table.new segments.new lookers frame_counts.new used.new place_counts.new frames.new disk.new), answered result.1) (own_store turn (machine manager (lent table.old segments.old lookers frame_counts.old used.old place_counts.old frames.old disk.old)) process page offset byte) }
+    ensures fixed { fixed memory.new ≡ fixed memory.old }
+    ensures value { ◌≡◌ {A = Machine × fold.Answer} (machine_of result.0 memory.new, answered result.1) (own_store turn (machine_of manager memory.old) store.process store.page store.offset store.byte) }
 {
-    let Manager {
-        sizes,
-        alive,
-        registers,
-    } = manager;
-    let (registers, written) = own::store(
-        table,
-        segments,
-        frame_counts,
-        used,
-        place_counts,
-        frames,
-        disk,
-        limits!(sizes),
-        sizes.processes,
-        sizes.pages,
-        registers,
-        process,
-        page,
-        offset,
-        byte,
-    );
+    let (registers, written) = own::store(memory, manager.registers, store);
     let manager = Manager {
-        sizes,
-        alive,
         registers,
+        ..manager
     };
     match written {
-        Some(written) => wrote(manager, used, process, page, written.frame),
+        Some(written) => wrote(manager, memory, store, written.frame),
         None => (manager, Answer::Full),
     }
 }
 
 // Stores to a segment, for all who look at it.
-fn store_segment(
-    manager: Manager,
-    table: &mut [u16],
-    segments: &mut [u16],
-    frame_counts: &mut [u16],
-    used: &mut [u16],
-    place_counts: &mut [u16],
-    frames: &mut [u8],
-    disk: &mut [u8],
-    process: usize,
-    page: usize,
-    offset: usize,
-    byte: u8,
-) -> (Manager, Answer)
-    requires range { InRange (ranged manager.sizes) }
-    requires exact { Exact (limits_of manager.sizes) manager.sizes.pages manager.sizes.processes table.old segments.old frame_counts.old used.old place_counts.old frames.old disk.old }
-    requires process_within { process < manager.sizes.processes }
-    requires page_within { page < manager.sizes.pages }
-    requires offset_within { offset < 256 }
+fn store_segment(manager: Manager, memory: &mut Memory<'_>, store: Store) -> (Manager, Answer)
+    requires { Inside memory.old.processes memory.old.pages store }
     ensures same { result.0.sizes ≡ manager.sizes }
-    ensures value { (lookers : List ℕ) → ◌≡◌ {A = Machine × fold.Answer} (machine result.0 (lent table.new segments.new lookers frame_counts.new used.new place_counts.new frames.new disk.new), answered result.1) (segment_store turn (machine manager (lent table.old segments.old lookers frame_counts.old used.old place_counts.old frames.old disk.old)) process page offset byte) }
+    ensures fixed { fixed memory.new ≡ fixed memory.old }
+    ensures value { ◌≡◌ {A = Machine × fold.Answer} (machine_of result.0 memory.new, answered result.1) (segment_store turn (machine_of manager memory.old) store.process store.page store.offset store.byte) }
 {
-    let Manager {
-        sizes,
-        alive,
-        registers,
-    } = manager;
-    let (registers, reached) = store_to_segment(
-        table,
-        segments,
-        frame_counts,
-        used,
-        place_counts,
-        frames,
-        disk,
-        limits!(sizes),
-        sizes.processes,
-        sizes.pages,
-        registers,
-        process,
-        page,
-        offset,
-        byte,
-    );
+    let (registers, reached) = store_to_segment(memory, manager.registers, store);
     let manager = Manager {
-        sizes,
-        alive,
         registers,
+        ..manager
     };
     match reached {
-        Some(taken) => wrote(manager, used, process, page, taken.frame),
+        Some(taken) => wrote(manager, memory, store, taken.frame),
         None => (manager, Answer::Fault),
     }
 }
 
 // Stores by the page table.
-fn store_walked(
-    manager: Manager,
-    table: &mut [u16],
-    segments: &mut [u16],
-    frame_counts: &mut [u16],
-    used: &mut [u16],
-    place_counts: &mut [u16],
-    frames: &mut [u8],
-    disk: &mut [u8],
-    process: usize,
-    page: usize,
-    offset: usize,
-    byte: u8,
-) -> (Manager, Answer)
-    requires range { InRange (ranged manager.sizes) }
-    requires exact { Exact (limits_of manager.sizes) manager.sizes.pages manager.sizes.processes table.old segments.old frame_counts.old used.old place_counts.old frames.old disk.old }
-    requires process_within { process < manager.sizes.processes }
-    requires page_within { page < manager.sizes.pages }
-    requires offset_within { offset < 256 }
+fn store_walked(manager: Manager, memory: &mut Memory<'_>, store: Store) -> (Manager, Answer)
+    requires { Inside memory.old.processes memory.old.pages store }
     ensures same { result.0.sizes ≡ manager.sizes }
-    ensures value { (lookers : List ℕ) → ◌≡◌ {A = Machine × fold.Answer} (machine result.0 (lent table.new segments.new lookers frame_counts.new used.new place_counts.new frames.new disk.new), answered result.1) (walked_store turn (machine manager (lent table.old segments.old lookers frame_counts.old used.old place_counts.old frames.old disk.old)) process page offset byte) }
+    ensures fixed { fixed memory.new ≡ fixed memory.old }
+    ensures value { ◌≡◌ {A = Machine × fold.Answer} (machine_of result.0 memory.new, answered result.1) (walked_store turn (machine_of manager memory.old) store.process store.page store.offset store.byte) }
 {
-    match target_of(manager, table, process, page) {
+    match memory.entry(store.process, store.page).target {
         Target::Absent => (manager, Answer::Fault),
-        Target::Segment(_) => store_segment(
-            manager,
-            table,
-            segments,
-            frame_counts,
-            used,
-            place_counts,
-            frames,
-            disk,
-            process,
-            page,
-            offset,
-            byte,
-        ),
-        Target::Zero | Target::Frame(_) | Target::Place(_) => store_own(
-            manager,
-            table,
-            segments,
-            frame_counts,
-            used,
-            place_counts,
-            frames,
-            disk,
-            process,
-            page,
-            offset,
-            byte,
-        ),
+        Target::Segment(_) => store_segment(manager, memory, store),
+        Target::Zero | Target::Frame(_) | Target::Place(_) => store_own(manager, memory, store),
     }
 }
 
 // Stores a byte to a page.
-pub(crate) fn store(
-    manager: Manager,
-    table: &mut [u16],
-    segments: &mut [u16],
-    frame_counts: &mut [u16],
-    used: &mut [u16],
-    place_counts: &mut [u16],
-    frames: &mut [u8],
-    disk: &mut [u8],
-    process: usize,
-    page: usize,
-    offset: usize,
-    byte: u8,
-) -> (Manager, Answer)
-    requires range { InRange (ranged manager.sizes) }
-    requires exact { Exact (limits_of manager.sizes) manager.sizes.pages manager.sizes.processes table.old segments.old frame_counts.old used.old place_counts.old frames.old disk.old }
-    ensures { (lookers : List ℕ) → Serves manager (lent table.old segments.old lookers frame_counts.old used.old place_counts.old frames.old disk.old) (fold.store process page offset byte) result (lent table.new segments.new lookers frame_counts.new used.new place_counts.new frames.new disk.new) }
+pub(crate) fn store(manager: Manager, memory: &mut Memory<'_>, store: Store) -> (Manager, Answer)
+    requires { Fits manager.sizes memory.old }
+    ensures { Serves manager memory.old (fold.store store.process store.page store.offset store.byte) result memory.new }
 {
-    if !manager.has(process, page) {
+    if !manager.has(store.process, store.page) {
         return (manager, Answer::Fault);
     }
-    if offset >= 256 {
+    if store.offset >= 256 {
         return (manager, Answer::Fault);
     }
-    match free_slot_of(manager, process, page) {
-        Some(slot) => store_hit(manager, used, frames, slot, offset, byte),
-        None => store_walked(
-            manager,
-            table,
-            segments,
-            frame_counts,
-            used,
-            place_counts,
-            frames,
-            disk,
-            process,
-            page,
-            offset,
-            byte,
-        ),
+    match manager.free_slot_of(store.process, store.page) {
+        Some(slot) => store_hit(manager, memory, slot, store),
+        None => store_walked(manager, memory, store),
     }
 }

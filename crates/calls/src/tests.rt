@@ -5,6 +5,7 @@ use requests::answer::*;
 use requests::request::*;
 use requests::sizes::Sizes;
 use std::test::Fail;
+use tables::lent::Lent;
 
 const SIZES: Sizes = Sizes {
     processes: 2,
@@ -22,28 +23,32 @@ fn memory_is_measured_first(rt: HostRuntime) {
     let (mut frames, mut short, mut long) = ([7u8; 256], [7u8; 255], [7u8; 257]);
     let refused = open(
         SIZES,
-        &mut table,
-        &mut segments,
-        &mut lookers,
-        &mut counts,
-        &mut used,
-        &mut places,
-        &mut frames,
-        &mut short,
+        &mut Lent {
+            table: &mut table,
+            segments: &mut segments,
+            lookers: &mut lookers,
+            frame_counts: &mut counts,
+            used: &mut used,
+            place_counts: &mut places,
+            frames: &mut frames,
+            disk: &mut short,
+        },
     );
     assert!(rt;
         matches!(refused, Err(Refusal::Lent(Part::Disk))) && table[0] == 7 && frames[0] == 7
     );
     let opened = open(
         SIZES,
-        &mut table,
-        &mut segments,
-        &mut lookers,
-        &mut counts,
-        &mut used,
-        &mut places,
-        &mut frames,
-        &mut long,
+        &mut Lent {
+            table: &mut table,
+            segments: &mut segments,
+            lookers: &mut lookers,
+            frame_counts: &mut counts,
+            used: &mut used,
+            place_counts: &mut places,
+            frames: &mut frames,
+            disk: &mut long,
+        },
     );
     assert!(rt; opened.is_ok() && table[0] == 0 && table[1] == 0 && table[2] == 7);
     assert!(rt; long[255] == 0 && long[256] == 7);
@@ -57,14 +62,16 @@ fn damaged_memory_is_answered(rt: HostRuntime) -> Result<(), Fail> {
     let (mut frames, mut disk) = ([0u8; 256], [0u8; 256]);
     let opened = open(
         SIZES,
-        &mut table,
-        &mut segments,
-        &mut lookers,
-        &mut counts,
-        &mut used,
-        &mut places,
-        &mut frames,
-        &mut disk,
+        &mut Lent {
+            table: &mut table,
+            segments: &mut segments,
+            lookers: &mut lookers,
+            frame_counts: &mut counts,
+            used: &mut used,
+            place_counts: &mut places,
+            frames: &mut frames,
+            disk: &mut disk,
+        },
     );
     let Ok(mut manager) = opened else {
         return Err(Fail::new("not opened"));
@@ -74,14 +81,16 @@ fn damaged_memory_is_answered(rt: HostRuntime) -> Result<(), Fail> {
     segments = [65535];
     let absent = call(
         &mut manager,
-        &mut table,
-        &mut segments,
-        &mut lookers,
-        &mut counts,
-        &mut used,
-        &mut places,
-        &mut frames,
-        &mut disk,
+        &mut Lent {
+            table: &mut table,
+            segments: &mut segments,
+            lookers: &mut lookers,
+            frame_counts: &mut counts,
+            used: &mut used,
+            place_counts: &mut places,
+            frames: &mut frames,
+            disk: &mut disk,
+        },
         Call::Drop {
             process: 0,
             page: 0,
@@ -92,14 +101,16 @@ fn damaged_memory_is_answered(rt: HostRuntime) -> Result<(), Fail> {
     table = [4, 14];
     let dropped = call_by_numbers(
         &mut manager,
-        &mut table,
-        &mut segments,
-        &mut lookers,
-        &mut counts,
-        &mut used,
-        &mut places,
-        &mut frames,
-        &mut disk,
+        &mut Lent {
+            table: &mut table,
+            segments: &mut segments,
+            lookers: &mut lookers,
+            frame_counts: &mut counts,
+            used: &mut used,
+            place_counts: &mut places,
+            frames: &mut frames,
+            disk: &mut disk,
+        },
         4,
         0,
         0,

@@ -1,3 +1,4 @@
+pub mod Bytes
 pub mod Follows
 pub mod Keeps
 pub mod Relocate

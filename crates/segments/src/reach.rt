@@ -1,11 +1,8 @@
 // A page that is loaded, or a segment that is stored to, is reached in a frame.
-ghost use Rattle.std.specs.Prelude.{◌≡◌, ℕ, ◌+◌, ◌*◌, ◌<◌, ◌≤◌, length, IfSome, Option};
-ghost use Rattle.frames.specs.Cut.{stored};
+ghost use Rattle.std.specs.Prelude.{◌≡◌, ◌<◌, IfSome, Option};
 ghost use Rattle.frames.specs.Turn.{turn};
-ghost use Rattle.tables.specs.Lent.{lists, shape};
-ghost use Rattle.tables.specs.State.{view, with_pages};
 ghost use Rattle.disk.specs.declared.registers.Taken.{Taken};
-ghost use Rattle.disk.specs.Memory.{fixed, Located, whole_of};
+ghost use Rattle.disk.specs.Memory.{fixed, whole_of};
 ghost use Rattle.disk.specs.Whole.{Whole};
 ghost use Rattle.copies.specs.Asked.{Inside};
 ghost use Rattle.segments.specs.Reach.{reach_page, stored_to_segment};
@@ -13,9 +10,6 @@ ghost use Rattle.segments.specs.Reach.{reach_page, stored_to_segment};
 use copies::stores::Store;
 use disk::memory::Memory;
 use disk::registers::{Registers, Taken};
-use frames::memory;
-use tables::entry::Limits;
-use tables::lent::Lent;
 use tables::walk::Lies;
 
 // The frame of a page, which comes in first if it lies on the disk. None for a page that is not there and for the page of zeros.
@@ -41,17 +35,6 @@ pub fn reach(
     }
 }
 
-// Writes one byte of a frame.
-fn put(lent: &mut Lent<'_>, limits: Limits, frame: usize, offset: usize, byte: u8)
-    requires frame_within { frame < limits.frames }
-    requires offset_within { offset < 256 }
-    requires located { Located limits lent.old }
-    ensures kept { shape lent.new ≡ shape lent.old }
-    ensures stored { (pages processes : ℕ) → view limits pages processes (lists lent.new) ≡ with_pages (view limits pages processes (lists lent.old)) (stored (view limits pages processes (lists lent.old)).pages frame offset byte) }
-{
-    memory::store(lent.frames, frame, offset, byte);
-}
-
 // Stores a byte to a segment, for all who look at it.
 pub fn store_to_segment(
     memory: &mut Memory<'_>,
@@ -67,13 +50,6 @@ pub fn store_to_segment(
     let Some(taken) = reached else {
         return (registers, None);
     };
-    let limits = memory.limits;
-    put(
-        &mut memory.lent,
-        limits,
-        taken.frame,
-        store.offset,
-        store.byte,
-    );
+    memory.store(taken.frame, store.offset, store.byte);
     (registers, Some(taken))
 }

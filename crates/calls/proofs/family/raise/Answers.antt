@@ -2,9 +2,9 @@ use Rattle.std.proofs.Common.{◌≡◌, ℕ, ◌+◌, min, List, ◌++◌, leng
 use Rattle.frames.specs.Counts.{counted_up}
 use Rattle.tables.specs.declared.entry.Target.{Target}
 use Rattle.tables.specs.Cells.{held_of, Within}
+use Rattle.tables.specs.Lent.{lists}
 use Rattle.tables.specs.State.{view, with_counts}
 use Rattle.tables.proofs.Locations.{at_place, put_place}
-use Rattle.disk.specs.Moves.{lent}
 use Rattle.copies.proofs.Parts.{up_frame}
 use Rattle.segments.specs.Release.{with_lookers}
 use Rattle.calls.specs.Pages.{raised}
@@ -14,30 +14,32 @@ up_place : (frames places : List ℕ) (n : ℕ) → length frames ≡ n → (d :
 up_place frames places n e d =
     put_place frames places n e d (min 65535 (get_or places d 0 + 1)) ∙ ap (λ c. set (frames ++ places) (n + d) (min 65535 (c + 1))) (sym (at_place frames places n e d 0))
 
-pub returns-in-Frame : goal.returns-in-Frame
+pub returns-in-Frame-clause-raised : goal.returns-in-Frame-clause-raised
 unfolding view
-returns-in-Frame c pages processes table segments used frames disk =
+returns-in-Frame-clause-raised c pages processes =
     let z = c.args.limits in
-    let fs = c.args.frame_counts.now in
-    let ps = c.args.place_counts.now in
-    let m = view z pages processes (lent table segments c.args.lookers.now fs used ps frames disk) in
+    let n = c.args.lent.now in
+    let fs = n.frame_counts.now in
+    let ps = n.place_counts.now in
+    let m = view z pages processes (lists n) in
     ap (λ cs. with_counts m (cs ++ ps)) c.count_up.ensures
-    ∙ ap (with_counts m) (up_frame fs ps z.frames c.requires.frame_counts c.in-Frame.frame (subst (Within z) c.in-Frame.is c.requires.target_within))
+    ∙ ap (with_counts m) (up_frame fs ps z.frames c.requires.named.frame_counts c.in-Frame.frame (subst (Within z) c.in-Frame.is c.requires.target_within))
     ∙ ap (λ (t : Target). raised m (held_of z.frames t)) (sym c.in-Frame.is)
 
-pub returns-in-Place : goal.returns-in-Place
+pub returns-in-Place-clause-raised : goal.returns-in-Place-clause-raised
 unfolding view
-returns-in-Place c pages processes table segments used frames disk =
+returns-in-Place-clause-raised c pages processes =
     let z = c.args.limits in
-    let fs = c.args.frame_counts.now in
-    let ps = c.args.place_counts.now in
-    let m = view z pages processes (lent table segments c.args.lookers.now fs used ps frames disk) in
-    ap (λ cs. with_counts m (fs ++ cs)) c.count_up-in-Place.ensures ∙ ap (with_counts m) (up_place fs ps z.frames c.requires.frame_counts c.in-Place.place)
+    let n = c.args.lent.now in
+    let fs = n.frame_counts.now in
+    let ps = n.place_counts.now in
+    let m = view z pages processes (lists n) in
+    ap (λ cs. with_counts m (fs ++ cs)) c.count_up-in-Place.ensures ∙ ap (with_counts m) (up_place fs ps z.frames c.requires.named.frame_counts c.in-Place.place)
     ∙ ap (λ (t : Target). raised m (held_of z.frames t)) (sym c.in-Place.is)
 
-pub returns-in-Segment : goal.returns-in-Segment
+pub returns-in-Segment-clause-raised : goal.returns-in-Segment-clause-raised
 unfolding view
-returns-in-Segment c pages processes table segments used frames disk =
+returns-in-Segment-clause-raised c pages processes =
     let z = c.args.limits in
-    let m = view z pages processes (lent table segments c.args.lookers.now c.args.frame_counts.now used c.args.place_counts.now frames disk) in
+    let m = view z pages processes (lists c.args.lent.now) in
     ap (with_lookers m) c.count_up-in-Segment.ensures ∙ ap (λ (t : Target). raised m (held_of z.frames t)) (sym c.in-Segment.is)

@@ -4,75 +4,60 @@ use Rattle.fold.specs.Fold as fold
 use Rattle.frames.specs.Turn.{turn}
 use Rattle.requests.specs.Meaning.{seen_sizes}
 use Rattle.requests.specs.declared.answer.Answer.TheVariants.{Fault}
-use Rattle.tables.specs.State.{view}
-use Rattle.disk.specs.Moves.{lent}
+use Rattle.lookaside.specs.Slots.{find_slot}
 use Rattle.calls.specs.declared.manager.Manager.{Manager}
 use Rattle.calls.specs.Calls.{load_by}
-use Rattle.calls.specs.Memory.{machine}
+use Rattle.calls.specs.Memory.{machine_of}
 use Rattle.calls.proofs.Serving.{refused}
 use Rattle.calls.proofs.Ways.{load_fault, load_goes, not_inside, past_the_end, reaches}
 use Rattle.calls.proofs.load.load.Goals as goal
 
 pub returns-then-not-has : goal.returns-then-not-has
-unfolding view
-returns-then-not-has c lookers =
+returns-then-not-has c =
     let g = c.args.manager in
     let z = seen_sizes g.sizes in
-    let m = lent c.args.table.now c.args.segments.now lookers c.args.frame_counts.now c.args.used.now c.args.place_counts.now c.args.frames.now c.args.disk.now in
+    let m = machine_of g c.args.memory.now in
     let p = c.args.process in
     let v = c.args.page in
     let o = c.args.offset in
-    refused g m (fold.load p v o) Fault (load_fault turn z (machine g m) p v o (not_inside turn z (machine g m) p v o (sym c.has.ensures.value ∙ c.if-not-has.true)))
+    refused g c.args.memory.now (fold.load p v o) Fault (load_fault turn z m p v o (not_inside turn z m p v o (sym c.has.ensures.value ∙ c.if-not-has.true)))
 
 pub returns-then-offset-ge256 : goal.returns-then-offset-ge256
-unfolding view
-returns-then-offset-ge256 c lookers =
+returns-then-offset-ge256 c =
     let g = c.args.manager in
     let z = seen_sizes g.sizes in
-    let m = lent c.args.table.now c.args.segments.now lookers c.args.frame_counts.now c.args.used.now c.args.place_counts.now c.args.frames.now c.args.disk.now in
+    let m = machine_of g c.args.memory.now in
     let p = c.args.process in
     let v = c.args.page in
     let o = c.args.offset in
-    refused g m (fold.load p v o) Fault (load_fault turn z (machine g m) p v o (past_the_end turn z (machine g m) p v o (le-ltb o 256 (omega arith))))
+    refused g c.args.memory.now (fold.load p v o) Fault (load_fault turn z m p v o (past_the_end turn z m p v o (le-ltb o 256 (omega arith))))
 
 pub returns-in-Some : goal.returns-in-Some
-unfolding view
-returns-in-Some c lookers =
+returns-in-Some c =
     let g = c.args.manager in
     let z = seen_sizes g.sizes in
-    let m = lent c.args.table.now c.args.segments.now lookers c.args.frame_counts.now c.args.used.now c.args.place_counts.now c.args.frames.now c.args.disk.now in
+    let m = machine_of g c.args.memory.now in
     let p = c.args.process in
     let v = c.args.page in
     let o = c.args.offset in
+    let found = sym c.in-Some.is ∙ c.slot_of.ensures.value ∙ (λ i. find_slot m.whole.slots (sym c.requires.limits i).frames p v) in
     record {
       same = ap (λ (r : Manager). r.sizes) c.load_hit.ensures.same;
-      serves = c.load_hit.ensures.value c.args.table.now c.args.segments.now lookers c.args.frame_counts.now c.args.place_counts.now c.args.disk.now
-          ∙ ap (load_by turn (machine g m) p v o) (sym c.in-Some.is ∙ c.slot_of.ensures.value)
-          ∙ sym (load_goes turn z (machine g m) p v o (reaches turn z (machine g m) p v o (sym c.has.ensures.value ∙ c.if-not-has.false) (lt-ltb o 256 (omega arith))));
-    }
-
-pub load_walked-requires : goal.load_walked-requires
-load_walked-requires c =
-    record {
-      range = c.requires.range;
-      exact = c.requires.exact;
-      process_within = c.has.ensures.process c.if-not-has.false;
-      page_within = c.has.ensures.page c.if-not-has.false;
-      offset_within = omega arith;
+      fixed = c.load_hit.ensures.fixed;
+      serves = c.load_hit.ensures.value ∙ ap (load_by turn m p v o) found ∙ sym (load_goes turn z m p v o (reaches turn z m p v o (sym c.has.ensures.value ∙ c.if-not-has.false) (lt-ltb o 256 (omega arith))));
     }
 
 pub returns-in-None : goal.returns-in-None
-unfolding view
-returns-in-None c lookers =
+returns-in-None c =
     let g = c.args.manager in
     let z = seen_sizes g.sizes in
-    let m = lent c.args.table.now c.args.segments.now lookers c.args.frame_counts.now c.args.used.now c.args.place_counts.now c.args.frames.now c.args.disk.now in
+    let m = machine_of g c.args.memory.now in
     let p = c.args.process in
     let v = c.args.page in
     let o = c.args.offset in
+    let found = sym c.in-None.is ∙ c.slot_of.ensures.value ∙ (λ i. find_slot m.whole.slots (sym c.requires.limits i).frames p v) in
     record {
       same = c.load_walked.ensures.same;
-      serves = c.load_walked.ensures.value lookers
-          ∙ ap (load_by turn (machine g m) p v o) (sym c.in-None.is ∙ c.slot_of.ensures.value)
-          ∙ sym (load_goes turn z (machine g m) p v o (reaches turn z (machine g m) p v o (sym c.has.ensures.value ∙ c.if-not-has.false) (lt-ltb o 256 (omega arith))));
+      fixed = c.load_walked.ensures.fixed;
+      serves = c.load_walked.ensures.value ∙ ap (load_by turn m p v o) found ∙ sym (load_goes turn z m p v o (reaches turn z m p v o (sym c.has.ensures.value ∙ c.if-not-has.false) (lt-ltb o 256 (omega arith))));
     }

@@ -4,14 +4,13 @@ use Rattle.fold.specs.Fold as fold
 use Rattle.frames.specs.Turn.{turn}
 use Rattle.requests.specs.Meaning.{seen_sizes}
 use Rattle.requests.specs.declared.answer.Answer.TheVariants.{Fault}
-use Rattle.tables.specs.State.{view}
 use Rattle.lookaside.specs.declared.slots.Slot.{Slot}
+use Rattle.lookaside.specs.Slots.{find_slot}
 use Rattle.disk.specs.Whole.{Choice}
-use Rattle.disk.specs.Moves.{lent}
 use Rattle.calls.specs.declared.manager.Manager.{Manager}
 use Rattle.calls.specs.Calls.{free_slot, slot_found, store_by, store_hit, walked_store}
 use Rattle.calls.specs.Machine.{Machine}
-use Rattle.calls.specs.Memory.{machine}
+use Rattle.calls.specs.Memory.{machine_of}
 use Rattle.calls.proofs.Serving.{refused}
 use Rattle.calls.proofs.Ways.{not_inside, past_the_end, reaches, store_fault, store_goes}
 use Rattle.calls.proofs.store.store.Goals as goal
@@ -27,69 +26,55 @@ store_by_free choose m p v o b (Some s) =
     elim s.free as (λ t. cond t (store_hit m o b s) (walked_store choose m p v o b) ≡ free_store choose m p v o b (cond t (Some s) None)) [ true ↦ refl | false ↦ refl ]
 
 pub returns-then-not-has : goal.returns-then-not-has
-unfolding view
-returns-then-not-has c lookers =
+returns-then-not-has c =
     let g = c.args.manager in
     let z = seen_sizes g.sizes in
-    let m = lent c.args.table.now c.args.segments.now lookers c.args.frame_counts.now c.args.used.now c.args.place_counts.now c.args.frames.now c.args.disk.now in
-    let p = c.args.process in
-    let v = c.args.page in
-    let o = c.args.offset in
-    let b = c.args.byte in
-    refused g m (fold.store p v o b) Fault (store_fault turn z (machine g m) p v o b (not_inside turn z (machine g m) p v o (sym c.has.ensures.value ∙ c.if-not-has.true)))
+    let m = machine_of g c.args.memory.now in
+    let s = c.args.store in
+    refused g c.args.memory.now (fold.store s.process s.page s.offset s.byte) Fault
+    (store_fault turn z m s.process s.page s.offset s.byte (not_inside turn z m s.process s.page s.offset (sym c.has.ensures.value ∙ c.if-not-has.true)))
 
-pub returns-then-offset-ge256 : goal.returns-then-offset-ge256
-unfolding view
-returns-then-offset-ge256 c lookers =
+pub returns-then-store-ge256 : goal.returns-then-store-ge256
+returns-then-store-ge256 c =
     let g = c.args.manager in
     let z = seen_sizes g.sizes in
-    let m = lent c.args.table.now c.args.segments.now lookers c.args.frame_counts.now c.args.used.now c.args.place_counts.now c.args.frames.now c.args.disk.now in
-    let p = c.args.process in
-    let v = c.args.page in
-    let o = c.args.offset in
-    let b = c.args.byte in
-    refused g m (fold.store p v o b) Fault (store_fault turn z (machine g m) p v o b (past_the_end turn z (machine g m) p v o (le-ltb o 256 (omega arith))))
+    let m = machine_of g c.args.memory.now in
+    let s = c.args.store in
+    refused g c.args.memory.now (fold.store s.process s.page s.offset s.byte) Fault
+    (store_fault turn z m s.process s.page s.offset s.byte (past_the_end turn z m s.process s.page s.offset (le-ltb s.offset 256 (omega arith))))
 
 pub returns-in-Some : goal.returns-in-Some
-unfolding view
-returns-in-Some c lookers =
+returns-in-Some c =
     let g = c.args.manager in
     let z = seen_sizes g.sizes in
-    let m = lent c.args.table.now c.args.segments.now lookers c.args.frame_counts.now c.args.used.now c.args.place_counts.now c.args.frames.now c.args.disk.now in
-    let p = c.args.process in
-    let v = c.args.page in
-    let o = c.args.offset in
-    let b = c.args.byte in
+    let m = machine_of g c.args.memory.now in
+    let s = c.args.store in
+    let p = s.process in
+    let v = s.page in
+    let o = s.offset in
+    let b = s.byte in
+    let found = sym c.in-Some.is ∙ c.free_slot_of.ensures.value ∙ (λ i. free_slot (find_slot m.whole.slots (sym c.requires.limits i).frames p v)) in
     record {
       same = ap (λ (r : Manager). r.sizes) c.store_hit.ensures.same;
-      serves = c.store_hit.ensures.value c.args.table.now c.args.segments.now lookers c.args.frame_counts.now c.args.place_counts.now c.args.disk.now
-          ∙ ap (free_store turn (machine g m) p v o b) (sym c.in-Some.is ∙ c.free_slot_of.ensures.value) ∙ sym (store_by_free turn (machine g m) p v o b (slot_found (machine g m) p v))
-          ∙ sym (store_goes turn z (machine g m) p v o b (reaches turn z (machine g m) p v o (sym c.has.ensures.value ∙ c.if-not-has.false) (lt-ltb o 256 (omega arith))));
-    }
-
-pub store_walked-requires : goal.store_walked-requires
-store_walked-requires c =
-    record {
-      range = c.requires.range;
-      exact = c.requires.exact;
-      process_within = c.has.ensures.process c.if-not-has.false;
-      page_within = c.has.ensures.page c.if-not-has.false;
-      offset_within = omega arith;
+      fixed = c.store_hit.ensures.fixed;
+      serves = c.store_hit.ensures.value ∙ ap (free_store turn m p v o b) found ∙ sym (store_by_free turn m p v o b (slot_found m p v))
+          ∙ sym (store_goes turn z m p v o b (reaches turn z m p v o (sym c.has.ensures.value ∙ c.if-not-has.false) (lt-ltb o 256 (omega arith))));
     }
 
 pub returns-in-None : goal.returns-in-None
-unfolding view
-returns-in-None c lookers =
+returns-in-None c =
     let g = c.args.manager in
     let z = seen_sizes g.sizes in
-    let m = lent c.args.table.now c.args.segments.now lookers c.args.frame_counts.now c.args.used.now c.args.place_counts.now c.args.frames.now c.args.disk.now in
-    let p = c.args.process in
-    let v = c.args.page in
-    let o = c.args.offset in
-    let b = c.args.byte in
+    let m = machine_of g c.args.memory.now in
+    let s = c.args.store in
+    let p = s.process in
+    let v = s.page in
+    let o = s.offset in
+    let b = s.byte in
+    let found = sym c.in-None.is ∙ c.free_slot_of.ensures.value ∙ (λ i. free_slot (find_slot m.whole.slots (sym c.requires.limits i).frames p v)) in
     record {
       same = c.store_walked.ensures.same;
-      serves = c.store_walked.ensures.value lookers
-          ∙ ap (free_store turn (machine g m) p v o b) (sym c.in-None.is ∙ c.free_slot_of.ensures.value) ∙ sym (store_by_free turn (machine g m) p v o b (slot_found (machine g m) p v))
-          ∙ sym (store_goes turn z (machine g m) p v o b (reaches turn z (machine g m) p v o (sym c.has.ensures.value ∙ c.if-not-has.false) (lt-ltb o 256 (omega arith))));
+      fixed = c.store_walked.ensures.fixed;
+      serves = c.store_walked.ensures.value ∙ ap (free_store turn m p v o b) found ∙ sym (store_by_free turn m p v o b (slot_found m p v))
+          ∙ sym (store_goes turn z m p v o b (reaches turn z m p v o (sym c.has.ensures.value ∙ c.if-not-has.false) (lt-ltb o 256 (omega arith))));
     }

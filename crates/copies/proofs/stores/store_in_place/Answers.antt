@@ -1,9 +1,7 @@
-use Rattle.std.proofs.Common.{◌≡◌, [], ◌++◌, length, set, sym, ap, ◌∙◌}
-use Rattle.frames.specs.Cut.{cut, row}
-use Rattle.frames.proofs.Cut.{cut_length}
+use Rattle.std.proofs.Common.{◌++◌}
 use Rattle.tables.specs.Rows.{cells}
 use Rattle.tables.specs.State.{view}
-use Rattle.tables.proofs.Locations.{at_frame, put_frame}
+use Rattle.disk.proofs.Bytes.{frame_stored}
 use Rattle.copies.specs.Stores.{stored_in_place}
 use Rattle.copies.proofs.stores.store_in_place.Goals as goal
 
@@ -14,12 +12,7 @@ returns-clause-stored c n h =
     let m = c.args.lent.now in
     let s = c.args.store in
     let f = c.args.frame in
-    let fs = cut 256 z.frames m.frames.now in
-    let ds = cut 256 z.places m.disk.now in
     let e = c.requires in
-    let long : length fs ≡ z.frames = cut_length 256 z.frames m.frames.now in
     let rows = c.write.ensures z n e.frame in
-    let pages =
-    ap (λ ps. ps ++ ds) (c.store.ensures z.frames) ∙ put_frame fs ds z.frames long f (set (row fs f) s.offset s.byte) e.frame
-    ∙ ap (λ ws. set (fs ++ ds) f (set ws s.offset s.byte)) (sym (at_frame fs ds z.frames long f [] e.frame)) in
+    let pages = frame_stored z.frames z.places m.frames.now m.disk.now f s.offset e.frame c.store.new.memory s.byte (c.store.ensures z.frames) in
     λ i. record { rows = rows i; segments = cells z m.segments.now; lookers = m.lookers.now; counts = m.frame_counts.now ++ m.place_counts.now; pages = pages i; used = m.used.now }

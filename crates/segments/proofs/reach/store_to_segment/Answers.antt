@@ -21,4 +21,4 @@ returns-clause-value c =
     let m = c.reach-reached.new.memory in
     let by : Whole × Option Taken → Whole × Option Taken = λ q. put_by s.offset s.byte q.0 q.1 in
     let w = whole_of c.reach-reached.result.0 m in
-    (λ i. (with_state w (c.put.ensures.stored m.pages m.processes i), Some c.in-Some.taken)) ∙ ap (λ (o : Option Taken). by (w, o)) (sym c.in-Some.is) ∙ ap by c.reach-reached.ensures.value
+    (λ i. (with_state w (c.store.ensures.stored i), Some c.in-Some.taken)) ∙ ap (λ (o : Option Taken). by (w, o)) (sym c.in-Some.is) ∙ ap by c.reach-reached.ensures.value

@@ -1,28 +1,11 @@
-use Rattle.std.proofs.Common.{◌<◌, ◌≤◌, false, length, take, sym, ◌∙◌, arith}
-use Rattle.std.proofs.lemmas.List.{get_or-take, length-take}
-use Rattle.calls.proofs.Absent.{absent_here, absent_later, absent_none}
+use Rattle.std.proofs.Common.{not, take, ◌∙◌, rules}
+use Rattle.std.proofs.lemmas.Iterator.{YieldsList-from_slice}
+use Rattle.std.proofs.lemmas.Iterator.Search.{position_from_yields_List}
+use Rattle.calls.proofs.Absent.{absent_position}
+use Rattle.calls.proofs.Entering.{part}
 use Rattle.calls.proofs.manager.Manager.lowest_absent.Goals as goal
 
-pub returns-then-not-self-process : goal.returns-then-not-self-process
-returns-then-not-self-process c =
-    let n = c.args.self.sizes.processes in
-    let within : c.loop-process.process < length (take n c.args.self.alive) = simp length-take (omega arith) in
-    record {
-      value =
-          sym (absent_here (take n c.args.self.alive) c.loop-process.process within (get_or-take n c.args.self.alive c.loop-process.process false (omega arith) ∙ c.if-not-self-process.true))
-          ∙ c.loop-process.invariant;
-      within = omega arith;
-    }
-
-pub loop-process-preserved : goal.loop-process-preserved
-loop-process-preserved c =
-    let n = c.args.self.sizes.processes in
-    let within : c.loop-process.process < length (take n c.args.self.alive) = simp length-take (omega arith) in
-    sym (absent_later (take n c.args.self.alive) c.loop-process.process within (get_or-take n c.args.self.alive c.loop-process.process false (omega arith) ∙ c.if-not-self-process.false))
-    ∙ c.loop-process.invariant
-
-pub returns : goal.returns
-returns c =
-    let n = c.args.self.sizes.processes in
-    let past : length (take n c.args.self.alive) ≤ c.loop-process.process = simp length-take (omega arith) in
-    record { value = sym (absent_none (take n c.args.self.alive) c.loop-process.process past) ∙ c.loop-process.invariant; within = tt }
+pub returns-clause-value : goal.returns-clause-value
+returns-clause-value c =
+    let there = take c.args.self.sizes.processes c.args.self.alive in
+    position_from_yields_List not _ _ _ c.position.ensures.ran (YieldsList-from_slice there (c.iter.ensures.rest ∙ part c.args.self.sizes.processes c.args.self.alive)) (λ x b q k. search rules) ∙ absent_position there
