@@ -1,24 +1,16 @@
 -- The entry lends the core a part of each list: what the core leaves there is the part afterwards, and the rest is as it was.
-use Rattle.std.proofs.Common.{◌≡◌, ℕ, ◌-◌, ◌≤◌, min, List, length, take, drop, Some, None, Ok, Err, Option, Result, sym, refl, ap, ◌∙◌, subst, arith}
+use Rattle.std.proofs.Common.{◌≡◌, ℕ, ◌-◌, ◌≤◌, min, List, length, take, drop, Some, None, Ok, Err, Option, sym, refl, ap, ◌∙◌, arith}
 use borrow.Rule.Slice.PartMut.{put_mid}
 use Rattle.std.proofs.lemmas.List.{length-take, length-drop}
 use Rattle.std.proofs.lemmas.Slice.{take-put_mid, drop-put_mid}
-use Rattle.requests.specs.Meaning.{Asked, answered, seen_sizes}
+use Rattle.requests.specs.Meaning.{Asked}
 use Rattle.requests.specs.Refusals.{unless_refused}
 use Rattle.requests.specs.declared.answer.Answer.{Answer}
 use Rattle.requests.specs.declared.answer.Refusal.{Refusal}
-use Rattle.requests.specs.declared.sizes.Sizes.{Sizes}
-use Rattle.tables.specs.declared.lent.Lent.{Lent as Slices}
-use Rattle.tables.specs.Lent.{lists}
 use Rattle.tables.specs.State.{Lent}
-use Rattle.disk.specs.declared.memory.Memory.{Memory}
-use Rattle.disk.specs.Memory.{Fixed}
-use Rattle.disk.specs.Moves.{lent}
-use Rattle.disk.specs.Whole.{whole}
 use Rattle.calls.specs.declared.manager.Manager.{Manager}
 use Rattle.calls.specs.Entry.{Called, cut_lent, rest_lent}
-use Rattle.calls.specs.Machine.{Machine}
-use Rattle.calls.specs.Memory.{Served, ServesAsked, limits_of, machine, machine_of, serve}
+use Rattle.calls.specs.Memory.{Served}
 
 -- the first n of a list, as they are lent
 pub part : {X : Type 0} (n : ℕ) (xs : List X) → take (n - 0) (drop 0 xs) ≡ take n xs

@@ -1,5 +1,5 @@
 -- What the manager's record and lent memory mean together, and what is asked of both before a call. Assumes nothing.
-use Rattle.std.specs.Prelude.{◌≡◌, ℕ, ◌*◌, Bool, false, ◌&&◌, List, length, take, nat_lt, slice_index_or}
+use Rattle.std.specs.Prelude.{◌≡◌, ℕ, Bool, false, ◌&&◌, length, take, nat_lt, slice_index_or}
 use Rattle.fold.specs.Fold as fold
 use Rattle.requests.specs.Meaning.{Asked, answered, calls, counts, seen_sizes}
 use Rattle.requests.specs.Ranges.{InRange, ranged}

@@ -101,6 +101,7 @@ fn serve_cut(
 // Answers a call. Lent memory may be longer than the machine needs, and may hold anything: the call is answered, and nothing outside is touched.
 pub fn call(manager: &mut Manager, lent: &mut Lent<'_>, call: Call) -> Result<Answer, Refusal>
     ensures called { Called (entry_refusal manager.old.sizes (lists lent.old)) manager.old (lists lent.old) (asked call) result manager.new (lists lent.new) }
+    ensures kept { shape lent.new ≡ shape lent.old }
     ensures same_table { lent.new.table.ghost_name ≡ lent.old.table.ghost_name }
     ensures same_segments { lent.new.segments.ghost_name ≡ lent.old.segments.ghost_name }
     ensures same_lookers { lent.new.lookers.ghost_name ≡ lent.old.lookers.ghost_name }
@@ -140,6 +141,7 @@ pub fn call_by_numbers(
     fourth: usize,
 ) -> Result<Answer, Refusal>
     ensures numbered { Numbered (call_of_numbers kind process page third fourth) manager.old (lists lent.old) result manager.new (lists lent.new) }
+    ensures kept { shape lent.new ≡ shape lent.old }
     ensures same_table { lent.new.table.ghost_name ≡ lent.old.table.ghost_name }
     ensures same_segments { lent.new.segments.ghost_name ≡ lent.old.segments.ghost_name }
     ensures same_lookers { lent.new.lookers.ghost_name ≡ lent.old.lookers.ghost_name }

@@ -1,7 +1,7 @@
 // Opening: from sizes and lent memory to a manager.
 ghost use Rattle.std.specs.Prelude.{◌≡◌, ◌-◌, true, false, ◌∷◌, take, replicate, None};
 ghost use Rattle.requests.specs.Ranges.{InRange, ranged};
-ghost use Rattle.tables.specs.Lent.{lists};
+ghost use Rattle.tables.specs.Lent.{lists, shape};
 ghost use Rattle.calls.specs.Entry.{entry_refusal, Opened};
 
 use crate::lent::admit;
@@ -41,6 +41,7 @@ fn start(sizes: Sizes) -> Manager
 // entry, of a count of nobody, and of a frame that was not used. The rest of lent memory is not touched.
 pub fn open(sizes: Sizes, lent: &mut Lent<'_>) -> Result<Manager, Refusal>
     ensures opened { Opened (entry_refusal sizes (lists lent.old)) sizes (lists lent.old) result (lists lent.new) }
+    ensures kept { shape lent.new ≡ shape lent.old }
     ensures same_table { lent.new.table.ghost_name ≡ lent.old.table.ghost_name }
     ensures same_segments { lent.new.segments.ghost_name ≡ lent.old.segments.ghost_name }
     ensures same_lookers { lent.new.lookers.ghost_name ≡ lent.old.lookers.ghost_name }

@@ -1,6 +1,6 @@
 // Why a machine could not be opened.
 ghost use Rattle.std.specs.Prelude.{◌≡◌};
-ghost use Rattle.machine.specs.declared.trouble.Trouble.TheVariants.{Memory};
+ghost use Rattle.machine.specs.declared.trouble.Trouble.TheVariants.{Memory, Refused};
 
 use requests::answer::Refusal;
 use std::alloc::AllocError;
@@ -18,5 +18,13 @@ impl From<AllocError> for Trouble {
 
     fn from(_e: AllocError) -> Trouble {
         Trouble::Memory
+    }
+}
+
+impl From<Refusal> for Trouble {
+    ghost from_gives = { λ e r. r ≡ Refused e };
+
+    fn from(e: Refusal) -> Trouble {
+        Trouble::Refused(e)
     }
 }
