@@ -6,21 +6,11 @@ ghost use Rattle.private.specs.SeePage.{see_process};
 ghost use Rattle.private.specs.See.{see, alive_at, process_seen, page_at, inside_at, reached_at, free_at, used_at, shared_at, load_at, segment_at};
 
 use super::memory::Memory;
-use super::page::{BYTES, Page, Sought};
-use super::process::Process;
+use super::page::{BYTES, Page, Sought, byte_at};
 use requests::answer::Answer;
 use requests::sizes::Sizes;
 
 impl Memory {
-    pub(crate) fn living(&self, process: usize) -> Option<&Process>
-        ensures { MatchOption result (alive_at (see self.now) process ≡ false) (λ q. (see_process q.now ≡ process_seen (see self.now) process) × (alive_at (see self.now) process ≡ true)) }
-    {
-        if !self.is_alive(process) || process >= self.processes.len() {
-            return None;
-        }
-        Some(&self.processes[process])
-    }
-
     // Whether a process is there and may have a page of that number.
     pub(crate) fn is_inside(&self, sizes: Sizes, process: usize, page: usize) -> bool
         ensures { result ≡ inside_at sizes (see self.now) process page }
@@ -38,10 +28,7 @@ impl Memory {
     pub(crate) fn has_page(&self, process: usize, page: usize) -> bool
         ensures { result ≡ there (page_at (see self.now) process page) }
     {
-        match self.page(process, page) {
-            Some(page) => page.is_there(),
-            None => false,
-        }
+        self.page(process, page).is_some_and(|page| page.is_there())
     }
 
     pub(crate) fn is_free(&self, sizes: Sizes, process: usize, page: usize) -> bool
@@ -67,11 +54,9 @@ impl Memory {
     pub(crate) fn segment_byte(&self, segment: usize, offset: usize) -> u8
         ensures { result ≡ slice_index (segment_at (see self.now) segment) offset }
     {
-        if segment < self.segments.len() {
-            byte_at(self.segments[segment].as_slice(), offset)
-        } else {
-            0
-        }
+        self.segments
+            .get(segment)
+            .map_or(0, |bytes| byte_at(bytes.as_slice(), offset))
     }
 
     pub(crate) fn load(&self, sizes: Sizes, process: usize, page: usize, offset: usize) -> Answer
@@ -84,20 +69,9 @@ impl Memory {
             return Answer::Fault;
         };
         match page {
-            Page::Own { bytes, .. } => Answer::Done(byte_at(bytes.as_slice(), offset) as u64),
-            Page::Segment(number) => Answer::Done(self.segment_byte(*number, offset) as u64),
+            Page::Own { bytes, .. } => Answer::Done(u64::from(byte_at(bytes.as_slice(), offset))),
+            Page::Segment(number) => Answer::Done(u64::from(self.segment_byte(*number, offset))),
             Page::Absent => Answer::Fault,
         }
-    }
-}
-
-// A byte, or 0 past the end.
-fn byte_at(bytes: &[u8], offset: usize) -> u8
-    ensures { result ≡ slice_index bytes.now offset }
-{
-    if offset < bytes.len() {
-        bytes[offset]
-    } else {
-        0
     }
 }

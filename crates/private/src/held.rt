@@ -27,13 +27,9 @@ impl Memory {
     fn held_segments(&self) -> usize
         ensures { result ≡ looked_at (see self.now) }
     {
-        let mut count = 0;
-        for i in 0..self.segments.len() {
-            if self.has(1, Sought::Looking(i)) {
-                count += 1;
-            }
-        }
-        count
+        (0..self.segments.len())
+            .filter(|segment| self.has(1, Sought::Looking(*segment)))
+            .count()
     }
 
     // Counted afresh each time.

@@ -19,7 +19,7 @@ impl Memory {
         if child >= sizes.processes {
             return Ok(Answer::Full);
         }
-        let copy = parent.copied(self.heap)?;
+        let copy = parent.clone()?;
         self.put_process(child, copy);
         Ok(Answer::Done(child as u64))
     }

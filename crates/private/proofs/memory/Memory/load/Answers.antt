@@ -13,13 +13,13 @@ returns-then-not-reaches c =
 pub returns-in-Own : goal.returns-in-Own
 unfolding fold.loaded
 returns-in-Own c =
-    ap fold.done (c.byte_at.ensures ∙ ap (λ bs. get_or bs c.args.offset 0) c.as_slice.ensures.value)
+    ap fold.done (c.from.ensures ∙ c.byte_at.ensures ∙ ap (λ bs. get_or bs c.args.offset 0) c.as_slice.ensures.value)
     ∙ sym (way.load_inside (seen_sizes c.args.sizes) (see c.args.self.now) c.args.process c.args.page c.args.offset (fold.own c.in-Own.label (vec_items c.in-Own.bytes)) (sym c.if-not-reaches.ensures) (c.in-Some.ensures ∙ ap see_page c.in-Own.is))
 
 pub returns-in-Segment : goal.returns-in-Segment
 unfolding fold.loaded
 returns-in-Segment c =
-    ap fold.done c.segment_byte.ensures
+    ap fold.done (c.from-in-Segment.ensures ∙ c.segment_byte.ensures)
     ∙ sym (way.load_inside (seen_sizes c.args.sizes) (see c.args.self.now) c.args.process c.args.page c.args.offset (fold.seen c.in-Segment.number) (sym c.if-not-reaches.ensures) (c.in-Some.ensures ∙ ap see_page c.in-Segment.is))
 
 pub returns-in-Absent : goal.returns-in-Absent
