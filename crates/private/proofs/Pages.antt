@@ -1,6 +1,6 @@
 -- How a process's pages look after a write, and how a count over them goes on.
-use Rattle.std.proofs.Common.{◌≡◌, ℕ, zero, suc, Bool, true, false, cond, eqb, filter, [], ◌∷◌, replicate, refl, ◌+◌, ◌<◌, ◌≤◌, List, map, length, get_or, drop, vec_items, vec_len, sym, ap, ◌∙◌, arith}
-use Rattle.std.proofs.lemmas.List.{map-set, set_past, length-map, get_or-map, get_or_past, at_drop_more}
+use Rattle.std.proofs.Common.{◌≡◌, ℕ, zero, suc, Bool, true, false, cond, eqb, filter, [], ◌∷◌, replicate, refl, ◌+◌, ◌<◌, ◌≤◌, List, map, length, get_or, vec_items, vec_len, sym, ap, ◌∙◌, arith}
+use Rattle.std.proofs.lemmas.List.{map-set, length-map, get_or-map, get_or_past}
 use Rattle.std.specs.Vec.{with_item}
 use Rattle.fold.specs.Fold as fold
 use Rattle.fold.specs.Fold.{over_pages, is_own, is_seen}

@@ -1,6 +1,6 @@
 -- The memory of the code and the world that it stands for, at one process or segment.
-use Rattle.std.proofs.Common.{◌≡◌, ℕ, zero, suc, ◌+◌, ◌<◌, ◌≤◌, ◌-◌, ◌^◌, min, Bool, true, false, cond, eqb, leb, List, [], ◌∷◌, ◌++◌, sum_by, count_by, map, length, get_or, drop, set, vec_items, vec_len, Vec, Option, Some, None, MatchOption, filter, sym, refl, ap, ◌∙◌, inl, inr, add-one, arith}
-use Rattle.std.proofs.lemmas.List.{map-set, set_past, length-map, get_or-map, get_or_past, at_drop_more}
+use Rattle.std.proofs.Common.{◌≡◌, ℕ, zero, suc, ◌+◌, ◌<◌, ◌≤◌, ◌-◌, ◌^◌, min, Bool, true, false, cond, eqb, leb, List, [], ◌∷◌, ◌++◌, sum_by, count_by, map, length, get_or, set, vec_items, vec_len, Vec, Option, Some, None, MatchOption, sym, refl, ap, ◌∙◌, inl, inr, add-one, arith}
+use Rattle.std.proofs.lemmas.List.{map-set, set_past, length-map, get_or-map, get_or_past}
 use Rattle.std.specs.List.{fold as fold_list, range_with_len}
 use Rattle.std.proofs.lemmas.List.{map-id}
 use Rattle.std.proofs.lemmas.List.FromFn.{map-range_with_len_more}
@@ -9,7 +9,7 @@ use Rattle.private.proofs.Pages.{page_is, page_past}
 use Rattle.std.specs.Slice.{IsItemAt}
 use Rattle.std.specs.Bool.{then_some}
 use denote.Ref.{Bor}
-use Rattle.std.proofs.lemmas.Bool.{false≢true, cond-true, cond-false, le-leb, lt-leb, leb-true, leb-false, eq-eqb, ne_eqb, cases_lt}
+use Rattle.std.proofs.lemmas.Bool.{false≢true, cond-true, cond-false, le-leb, lt-leb, eq-eqb, ne_eqb, cases_lt}
 use Rattle.std.specs.Vec.{with_item}
 use Rattle.std.specs.declared.alloc.Global.{Global}
 use Rattle.fold.specs.Fold as fold
@@ -72,9 +72,6 @@ pub page_is_process : (w : fold.World) (p v : ℕ) (x : fold.Page) → with_page
 unfolding with_page with_process
 page_is_process w p v x = refl
 
-pub first_free_more : (xs : List Process) (i : ℕ) (d : Process) → i < length xs → first_free (map see_process (drop i xs)) ≡ first_free (see_process (get_or xs i d) ∷ map see_process (drop (i + 1) xs))
-first_free_more xs i d h = at_drop_more (λ ys. first_free (map see_process ys)) xs i d h
-
 -- a process that an edit of its own has changed
 pub edited : (m : Memory) (p : ℕ) (q q' : Process) (f : fold.Process → fold.Process) → p < vec_len m.processes → q ≡ get_or (vec_items m.processes) p q → see_process q' ≡ f (see_process q) → see (with_p m p q') ≡ with_process (see m) p (f (process (see m) p))
 edited m p q q' f h e same = put_process_here m p q' ∙ ap (with_process (see m) p) (same ∙ ap f (sym (process_at m p q h e)))
@@ -89,25 +86,6 @@ same_test w a b most h e =
       | inl less ↦ lt-leb w a less ∙ sym (lt-leb w b (omega arith))
       | inr most' ↦ le-leb w a most' ∙ sym (le-leb w b (omega arith))
     ]
-
-pub first_free_here : (q : fold.Process) (qs : List fold.Process) → q.alive ≡ false → first_free (q ∷ qs) ≡ 0
-unfolding first_free
-first_free_here q qs e = cond-false q.alive (suc (first_free qs)) 0 e
-
-pub first_free_on : (q : fold.Process) (qs : List fold.Process) → q.alive ≡ true → first_free (q ∷ qs) ≡ suc (first_free qs)
-unfolding first_free
-first_free_on q qs e = cond-true q.alive (suc (first_free qs)) 0 e
-
-pub first_segment_here : (w : fold.World) (i : ℕ) (s : List ℕ) (ss : List (List ℕ)) → leb 1 (lookers w i) ≡ false → first_segment w i (s ∷ ss) ≡ 0
-unfolding first_segment
-first_segment_here w i s ss e =
-    cond-true (eqb (lookers w i) 0) 0 (suc (first_segment w (suc i) ss)) (eq-eqb (lookers w i) 0 (omega (arith, leb-false 1 (lookers w i) e)))
-
-pub first_segment_on : (w : fold.World) (i : ℕ) (s : List ℕ) (ss : List (List ℕ)) → leb 1 (lookers w i) ≡ true → first_segment w i (s ∷ ss) ≡ suc (first_segment w (i + 1) ss)
-unfolding first_segment
-first_segment_on w i s ss e =
-    rw add-one
-    (cond-false (eqb (lookers w i) 0) 0 (suc (first_segment w (suc i) ss)) (ne_eqb (lookers w i) 0 (λ z. omega (arith, leb-true 1 (lookers w i) e))))
 
 own_there : (b : Bool) (x : fold.Page) (l : ℕ) (ws : List ℕ) → cond b x fold.absent ≡ fold.own l ws → x ≡ fold.own l ws
 own_there true x l ws e = e

@@ -1,10 +1,10 @@
 // The memory of all processes.
-ghost use Rattle.std.specs.Prelude.{◌≡◌, true, false, MatchOption, nat_le, slice_set};
+ghost use Rattle.std.specs.Prelude.{◌≡◌, true, false, MatchOption, length, nat_le, slice_set};
 ghost use Rattle.fold.specs.Fold.{absent, with_page, with_process};
 ghost use Rattle.private.specs.SeePage.{see_page, see_process};
-ghost use Rattle.private.specs.See.{see, alive_at, process_seen, page_at, found, free_process, free_segment, with_byte, with_segment, segment_at, emptied};
+ghost use Rattle.private.specs.See.{FoundAt, see, alive_at, process_seen, page_at, found, free_process, free_segment, with_byte, with_segment, segment_at, emptied};
 
-use super::page::{Page, Sought, put_at};
+use super::page::{Address, Page, Sought, put_at};
 use super::process::Process;
 use std::alloc::Global;
 
@@ -31,10 +31,10 @@ impl Memory {
     }
 
     // None for what no process has; a page may also be there and absent.
-    pub(crate) fn page(&self, process: usize, page: usize) -> Option<&Page>
-        ensures { MatchOption result (page_at (see self.now) process page ≡ absent) (λ x. page_at (see self.now) process page ≡ see_page x.now) }
+    pub(crate) fn page(&self, place: Address) -> Option<&Page>
+        ensures { MatchOption result (page_at (see self.now) place.process place.page ≡ absent) (λ x. page_at (see self.now) place.process place.page ≡ see_page x.now) }
     {
-        self.living(process)?.pages.get(page)
+        self.living(place.process)?.pages.get(place.page)
     }
 
     // Whether at least so many pages are sought.
@@ -48,35 +48,25 @@ impl Memory {
         wanted <= count
     }
 
-    // The lowest process that is not there, or how many there are.
-    pub(crate) fn free_process(&self) -> usize
-        ensures { result ≡ free_process (see self.now) }
+    // The lowest process that is not there.
+    pub(crate) fn free_process(&self) -> Option<usize>
+        ensures { FoundAt (free_process (see self.now)) (length (see self.now).processes) result }
     {
-        for (i, process) in self.processes.iter().enumerate() {
-            if !process.alive {
-                return i;
-            }
-        }
-        self.processes.len()
+        self.processes.iter().position(|process| !process.alive)
     }
 
-    // The lowest segment that nobody looks at, or how many there are.
-    pub(crate) fn free_segment(&self) -> usize
-        ensures { result ≡ free_segment (see self.now) }
+    // The lowest segment that nobody looks at.
+    pub(crate) fn free_segment(&self) -> Option<usize>
+        ensures { FoundAt (free_segment (see self.now)) (length (see self.now).segments) result }
     {
-        for i in 0..self.segments.len() {
-            if !self.has(1, Sought::Looking(i)) {
-                return i;
-            }
-        }
-        self.segments.len()
+        (0..self.segments.len()).position(|segment| !self.has(1, Sought::Looking(segment)))
     }
 
-    pub(crate) fn put_page(&mut self, process: usize, page: usize, new: Page)
-        ensures { see self.new ≡ with_page (see self.old) process page (see_page new) }
+    pub(crate) fn put_page(&mut self, place: Address, new: Page)
+        ensures { see self.new ≡ with_page (see self.old) place.process place.page (see_page new) }
     {
-        if let Some(process) = self.processes.get_mut(process) {
-            process.put(page, new);
+        if let Some(process) = self.processes.get_mut(place.process) {
+            process.put(place.page, new);
         }
     }
 
@@ -106,18 +96,11 @@ impl Memory {
     }
 
     // An own page gets a byte and, it may be, another label.
-    pub(crate) fn put_byte(
-        &mut self,
-        process: usize,
-        page: usize,
-        label: u64,
-        offset: usize,
-        byte: u8,
-    )
-        ensures { see self.new ≡ with_byte (see self.old) process page label offset byte }
+    pub(crate) fn put_byte(&mut self, place: Address, label: u64, offset: usize, byte: u8)
+        ensures { see self.new ≡ with_byte (see self.old) place.process place.page label offset byte }
     {
-        if let Some(process) = self.processes.get_mut(process) {
-            process.store(page, label, offset, byte);
+        if let Some(process) = self.processes.get_mut(place.process) {
+            process.store(place.page, label, offset, byte);
         }
     }
 

@@ -17,6 +17,13 @@ pub enum Page {
     Segment(usize),
 }
 
+// Which page: of which process, and which of its pages.
+#[derive(Clone, Copy)]
+pub struct Address {
+    pub process: usize,
+    pub page: usize,
+}
+
 // Which pages to count: those of a label, or those that are a segment.
 #[derive(Clone, Copy)]
 pub enum Sought {

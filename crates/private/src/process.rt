@@ -8,6 +8,7 @@ use std::alloc::{AllocError, Global};
 
 #[derive(Clone, Drop)]
 pub struct Process {
+    // A flag, and no Option: a process that left is seen with as many pages as before, all absent.
     pub alive: bool,
     pub pages: Vec<Page>,
 }

@@ -1,4 +1,4 @@
-use Rattle.std.proofs.Common.{◌-◌, ◌^◌, vec_items, ◌∙◌, arith, rules, tests}
+use Rattle.std.proofs.Common.{◌-◌, ◌^◌, vec_items, arith, rules, tests}
 use Rattle.std.proofs.lemmas.Iterator.{YieldsList-from_slice}
 use Rattle.std.proofs.lemmas.Iterator.Consumers.{fold_from_yields_List}
 use Rattle.private.proofs.Worlds.{saturated, saturates, same_test}

@@ -7,5 +7,5 @@ use Rattle.private.proofs.memory.Memory.has_page.Goals as goal
 
 pub returns : goal.returns
 returns c =
-    there_or_not (page_at (see c.args.self.now) c.args.process c.args.page) _ _ c.page.ensures
+    there_or_not (page_at (see c.args.self.now) c.args.place.process c.args.place.page) _ _ c.page.ensures
     (match_weaker c.page.result (c.is_some_and.result ≡ false) _ (λ x. c.is_some_and.result ≡ there (see_page x.now)) (λ x h. search (rules, tests)) c.is_some_and.ensures)

@@ -1,4 +1,3 @@
-use Rattle.std.proofs.Common.{refl}
 use Rattle.private.specs.SeePage.{see_process}
 use Rattle.private.proofs.Worlds.{put_process_here, put_process_past, past_end}
 use Rattle.private.proofs.memory.Memory.put_process.Goals as goal

@@ -1,7 +1,6 @@
-use Rattle.std.proofs.Common.{List, map, ap, ◌∙◌, rules}
+use Rattle.std.proofs.Common.{List, map, ap, ◌∙◌}
 use Rattle.fold.specs.Fold as fold
 use Rattle.private.specs.SeePage.{see_page}
-use Rattle.private.specs.declared.page.Page.TheVariants.{Absent}
 use Rattle.private.proofs.Pages.{clone_absent, absent_pages}
 use Rattle.private.proofs.process.Process.empty.Goals as goal
 

@@ -1,6 +1,6 @@
 use Rattle.std.proofs.Common.{arith}
 use Rattle.fold.specs.Fold.{inside}
-use Rattle.private.proofs.memory.Memory.is_inside.Goals as goal
+use Rattle.private.proofs.machine.Machine.is_inside.Goals as goal
 
 pub returns-then-is_alive : goal.returns-then-is_alive
 unfolding inside
