@@ -14,7 +14,7 @@ impl Memory {
     pub(crate) fn has_page(&self, place: Address) -> bool
         ensures { result ≡ there (page_at (see self.now) place.process place.page) }
     {
-        self.page(place).is_some_and(|page| page.is_there())
+        self.page(place).is_some_and(Page::is_there)
     }
 
     // Whether a page of that label is not the only one, or is a page of zeros that nobody has stored to.
