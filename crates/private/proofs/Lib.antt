@@ -2,6 +2,6 @@ mod Calls
 mod Counting
 mod Finding
 mod Keeps
-mod Pages
 mod Made
+mod Pages
 mod Worlds

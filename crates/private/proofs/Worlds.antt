@@ -62,11 +62,6 @@ put_segment_here m s v =
     ap (λ (ss : List (List ℕ)). record { processes = (see m).processes; segments = ss; next = m.next })
     (map-set vec_items (vec_items m.segments) s v)
 
-pub put_segment_past : (m : Memory) (s : ℕ) (bytes : List ℕ) → vec_len m.segments ≤ s → see m ≡ with_segment (see m) s bytes
-put_segment_past m s bytes h =
-    let past : length (map vec_items (vec_items m.segments)) ≤ s = rw length-map (omega (arith, m.segments.ok.0)) in
-    ap (λ (ss : List (List ℕ)). record { processes = (see m).processes; segments = ss; next = m.next }) (sym (set_past _ s bytes past))
-
 -- a write to a page is a write to its process
 pub page_is_process : (w : fold.World) (p v : ℕ) (x : fold.Page) → with_page w p v x ≡ with_process w p (put_in (process w p) v x)
 unfolding with_page with_process
