@@ -1,5 +1,5 @@
 -- Every call keeps what holds of a machine's world at all times.
-use Rattle.std.proofs.Common.{◌≡◌, ℕ, zero, suc, ◌+◌, ◌<◌, Bool, true, false, cond, not, ◌&&◌, ◌||◌, eqb, ltb, leb, ◌⊎◌, List, [], ◌∷◌, ◌++◌, length, get_or, set, replicate, Ok, Err, Result, sym, refl, ap, ◌∙◌, subst, inl, inr, add-one, arith}
+use Rattle.std.proofs.Common.{◌≡◌, ℕ, zero, suc, ◌+◌, ◌-◌, ◌<◌, Bool, true, false, cond, not, ◌&&◌, ◌||◌, eqb, ltb, leb, ◌⊎◌, List, [], ◌∷◌, ◌++◌, length, get_or, set, replicate, Ok, Err, Result, sym, refl, ap, ◌∙◌, subst, inl, inr, add-one, arith}
 use Rattle.std.proofs.lemmas.List.{get_or-set_same, get_or-set_other, set_past, length-set, length-replicate, get_or-replicate, get_or_past}
 use Rattle.std.proofs.lemmas.Bool.{cases_eq, cases_lt, cases_Bool, false≢true}
 use Rattle.requests.specs.Meaning.{seen_sizes}
@@ -7,7 +7,7 @@ use Rattle.requests.specs.declared.answer.Answer.{Answer}
 use Rattle.requests.specs.declared.sizes.Sizes.{Sizes}
 use Rattle.fold.specs.Fold as fold
 use Rattle.fold.specs.Fold.{World, Process, Page, process, page, call, with_page, with_process, stored, looked, others, nobody}
-use Rattle.private.specs.See.{Rows, Labels, Makes, label_of}
+use Rattle.private.specs.See.{Rows, Labels, Room, Makes, label_of}
 use Rattle.private.specs.SeePage.{put_in, blank}
 use Rattle.private.specs.declared.want.Want.{Want}
 use Rattle.private.proofs.Calls as way
@@ -18,7 +18,11 @@ abbrev Below : ℕ → World → Type 0
 Below n w = (p v : ℕ) → label_of (page w p v) < n
 
 abbrev pub Kept : Sizes → World → Type 0
-Kept z w = Rows z w × Labels w
+Kept z w = Rows z w × Labels w × Room z w
+
+-- with what is kept of processes and labels, and as much room as before
+kept : (z : Sizes) (w w' : World) → Rows z w' × Labels w' → length w'.processes ≡ length w.processes → length w'.segments ≡ length w.segments → Room z w → Kept z w'
+kept z w w' k p s room = (k.0, k.1, (p ∙ room.0, s ∙ room.1))
 
 -- what is asked of a process that is put in
 abbrev Good : Sizes → ℕ → Process → Type 0
@@ -81,25 +85,26 @@ looked_keeps : (z : Sizes) (w : World) (p v : ℕ) (x : Page) → Kept z w → K
 unfolding looked with_page
 looked_keeps z w p v fold.absent k = k
 looked_keeps z w p v (fold.own l ws) k = k
-looked_keeps z w p v (fold.seen s) k = keep_page z w.next w p v (fold.seen s) (some_next w k.1) k.0 k.1
+looked_keeps z w p v (fold.seen s) k =
+    kept z w _ (keep_page z w.next w p v (fold.seen s) (some_next w k.1) k.0 k.1) (length-set _ _ _) refl k.2
 
 stored_keeps : (z : Sizes) (w : World) (p v o x : ℕ) (y : Page) → page w p v ≡ y → Kept z w → Kept z (stored (seen_sizes z) w p v o x y).0
 unfolding stored with_page process page
 stored_keeps z w p v o x fold.absent e k = k
-stored_keeps z w p v o x (fold.seen s) e k = k
+stored_keeps z w p v o x (fold.seen s) e k = kept z w _ (k.0, k.1) refl (length-set _ _ _) k.2
 stored_keeps z w p v o x (fold.own l ws) e k =
     let P : World × fold.Answer → Type 0 = λ r. Kept z r.0 in
     let y = seen_sizes z in
     elim (cases_Bool (eqb l 0 || fold.more_than_one (fold.users w l))) [
       | inr alone ↦
           subst P (sym (way.stored_alone y w p v o x l ws alone))
-          (keep_page z w.next w p v (fold.own l (set ws o x)) (rw e at (k.1 p v)) k.0 k.1)
+          (kept z w _ (keep_page z w.next w p v (fold.own l (set ws o x)) (rw e at (k.1 p v)) k.0 k.1) (length-set _ _ _) refl k.2)
       | inl shared ↦
           elim (cases_Bool (leb (z.frames + z.places) (fold.held w))) [
             | inl full ↦ subst P (sym (way.stored_full y w p v o x l ws shared full)) k
             | inr room ↦
                 subst P (sym (way.stored_fresh y w p v o x l ws shared room))
-                (keep_page z (suc w.next) w p v (fold.own w.next (set ws o x)) (omega arith) k.0 (λ q u. omega (arith, k.1 q u)))
+                (kept z w _ (keep_page z (suc w.next) w p v (fold.own w.next (set ws o x)) (omega arith) k.0 (λ q u. omega (arith, k.1 q u))) (length-set _ _ _) refl k.2)
           ]
     ]
 
@@ -117,7 +122,7 @@ module _ (z : Sizes) (w : World) (k : Kept z w) where
               | inl full ↦ subst P (sym (way.fork_full (seen_sizes z) w p there full)) k
               | inr room ↦
                   subst P (sym (way.fork_done (seen_sizes z) w p there room))
-                  (keep_process z w.next w (fold.first_free w.processes) (process w p) (k.0 p, k.1 p) k.0 k.1)
+                  (kept z w _ (keep_process z w.next w (fold.first_free w.processes) (process w p) (k.0 p, k.1 p) k.0 k.1) (length-set _ _ _) refl k.2)
             ]
       ]
 
@@ -128,12 +133,12 @@ module _ (z : Sizes) (w : World) (k : Kept z w) where
         | inr gone ↦ subst P (sym (way.leave_fault (seen_sizes z) w p gone)) k
         | inl there ↦
             subst P (sym (way.leave_done (seen_sizes z) w p there))
-            (keep_process z w.next w p (blank false z.pages) (gone_good z w.next z.pages (some_next w k.1)) k.0 k.1)
+            (kept z w _ (keep_process z w.next w p (blank false z.pages) (gone_good z w.next z.pages (some_next w k.1)) k.0 k.1) (length-set _ _ _) refl k.2)
       ]
 
   page_keeps : (p v : ℕ) (x : Page) → label_of x ≡ 0 → Kept z (with_page w p v x)
   unfolding with_page
-  page_keeps p v x e = keep_page z w.next w p v x (omega (arith, e, some_next w k.1)) k.0 k.1
+  page_keeps p v x e = kept z w _ (keep_page z w.next w p v x (omega (arith, e, some_next w k.1)) k.0 k.1) (length-set _ _ _) refl k.2
 
   map_keeps : (p v : ℕ) → P (call (seen_sizes z) w (fold.map p v))
   map_keeps p v =
@@ -162,7 +167,7 @@ module _ (z : Sizes) (w : World) (k : Kept z w) where
                     | inl full ↦ subst P (sym (way.make_full (seen_sizes z) w p v it some full)) k
                     | inr room ↦
                         subst P (sym (way.make_done (seen_sizes z) w p v it some room (fold.first_segment w 0 w.segments) refl))
-                        (page_keeps p v (fold.seen (fold.first_segment w 0 w.segments)) refl)
+                        (let q = page_keeps p v (fold.seen (fold.first_segment w 0 w.segments)) refl in (q.0, q.1, (q.2.0, length-set _ _ _ ∙ k.2.1)))
                   ]
             ]
       ]
@@ -222,11 +227,19 @@ first_good : (z : Sizes) (n p : ℕ) → Good z 1 (get_or (blank true z.pages �
 first_good z n zero = blank_good z true
 first_good z n (suc p) = others_good z n p
 
-pub begins_kept : (z : Sizes) (n : ℕ) (w : World) → w.processes ≡ blank true z.pages ∷ others z.pages n → w.next ≡ 1 → Kept z w
+length-others : (k n : ℕ) → length (others k n) ≡ n
+unfolding others
+length-others k zero = refl
+length-others k (suc n) = ap suc (length-others k n)
+
+pub begins_kept : (z : Sizes) (w : World) → w.processes ≡ blank true z.pages ∷ others z.pages (z.processes - 1) → w.segments ≡ replicate z.segments [] → w.next ≡ 1 → Kept z w
 unfolding process page
-begins_kept z n w e f =
-    let good : (p : ℕ) → Good z 1 (process w p) = λ p. subst (λ qs. Good z 1 (get_or qs p nobody)) (sym e) (first_good z n p) in
-    (λ p. (good p).0, λ p v. rw f ((good p).1 v))
+begins_kept z w e s f =
+    let good : (p : ℕ) → Good z 1 (process w p) = λ p. subst (λ qs. Good z 1 (get_or qs p nobody)) (sym e) (first_good z (z.processes - 1) p) in (
+      λ p. (good p).0,
+      λ p v. rw f ((good p).1 v),
+      (ap length e ∙ ap suc (length-others z.pages (z.processes - 1)), ap length s ∙ length-replicate z.segments []),
+    )
 
 pub others_more : (k n : ℕ) → others k n ++ blank false k ∷ [] ≡ others k (n + 1)
 unfolding others

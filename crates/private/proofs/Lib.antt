@@ -1,5 +1,7 @@
 mod Calls
 mod Counting
+mod Finding
 mod Keeps
+mod Made
 mod Pages
 mod Worlds

@@ -1,5 +1,5 @@
 -- What the memory of the code is to the machine of private memories, and what one call does to it. Assumes nothing.
-use Rattle.std.specs.Prelude.{◌≡◌, ℕ, ◌+◌, ◌<◌, Bool, true, false, not, ◌&&◌, ◌||◌, List, [], map, length, Ok, Err, vec_items, Result, ◌==◌, nat_le, nat_lt, slice_index_or, slice_set}
+use Rattle.std.specs.Prelude.{◌≡◌, ℕ, suc, ◌+◌, ◌-◌, ◌<◌, Bool, true, false, not, ◌&&◌, ◌||◌, List, [], map, length, Ok, Err, Option, MatchOption, vec_items, Result, ◌==◌, nat_le, nat_lt, slice_index_or, slice_set}
 use Rattle.fold.specs.Fold as fold
 use Rattle.requests.specs.Meaning.{answered, seen_sizes}
 use Rattle.requests.specs.declared.answer.Answer.{Answer}
@@ -89,6 +89,14 @@ full_at z w = nat_le (z.frames + z.places) (fold.held w)
 abbrev pub Rows : Sizes → fold.World → Type 0
 Rows z w = (p : ℕ) → (fold.process w p).alive ≡ true → length (fold.process w p).pages ≡ z.pages
 
+-- and there is as much room as the sizes say, but always for one process
+abbrev pub Room : Sizes → fold.World → Type 0
+Room z w = (length w.processes ≡ suc (z.processes - 1)) × (length w.segments ≡ z.segments)
+
+-- what is answered of a place that the rules count, where there are n: that place, or none if it is n
+abbrev pub FoundAt : ℕ → ℕ → Option ℕ → Type 0
+FoundAt place n r = MatchOption r (place ≡ n) (λ i. (i ≡ place) × (i < n))
+
 abbrev pub label_of : fold.Page → ℕ
 label_of fold.absent = 0
 label_of (fold.own l ws) = l
@@ -97,33 +105,6 @@ label_of (fold.seen s) = 0
 abbrev pub Labels : fold.World → Type 0
 Labels w = (p v : ℕ) → label_of (fold.page w p v) < w.next
 
-abbrev pub Forks : Sizes → ℕ → fold.World → Result Answer Want → fold.World → Type 0
-Forks z p = Makes z (fold.fork p)
-
-abbrev pub Leaves : Sizes → ℕ → fold.World → Result Answer Want → fold.World → Type 0
-Leaves z p = Makes z (fold.leave p)
-
-abbrev pub Maps : Sizes → ℕ → ℕ → fold.World → Result Answer Want → fold.World → Type 0
-Maps z p v = Makes z (fold.map p v)
-
-abbrev pub Drops : Sizes → ℕ → ℕ → fold.World → Result Answer Want → fold.World → Type 0
-Drops z p v = Makes z (fold.drop p v)
-
-abbrev pub Shares : Sizes → ℕ → ℕ → fold.World → Result Answer Want → fold.World → Type 0
-Shares z p v = Makes z (fold.make p v)
-
-abbrev pub Looks : Sizes → ℕ → ℕ → ℕ → ℕ → fold.World → Result Answer Want → fold.World → Type 0
-Looks z p v q u = Makes z (fold.look p v q u)
-
-abbrev pub Stores : Sizes → ℕ → ℕ → ℕ → ℕ → fold.World → Result Answer Want → fold.World → Type 0
-Stores z p v o x = Makes z (fold.store p v o x)
-
 -- what a load answers
 abbrev pub load_at : Sizes → ℕ → ℕ → ℕ → fold.World → fold.Answer
 load_at z p v o w = (fold.call (seen_sizes z) w (fold.load p v o)).1
-
--- a store to page v of p, which is its own and has the label l
-abbrev pub StoresOwn : Sizes → ℕ → ℕ → ℕ → ℕ → ℕ → fold.World → Result Answer Want → fold.World → Type 0
-StoresOwn z p v l o x w (Ok a) w' = (ws : List ℕ) → fold.page w p v ≡ fold.own l ws →
-    (w' ≡ (fold.stored (seen_sizes z) w p v o x (fold.own l ws)).0) × (answered a ≡ (fold.stored (seen_sizes z) w p v o x (fold.own l ws)).1)
-StoresOwn z p v l o x w (Err e) w' = w' ≡ w

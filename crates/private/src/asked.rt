@@ -1,59 +1,20 @@
-// What a call asks of the memory before it changes anything.
-ghost use Rattle.std.specs.Prelude.{◌≡◌, true, false, MatchOption, slice_index};
+// What a call asks before it changes anything.
+ghost use Rattle.std.specs.Prelude.{◌≡◌, slice_index};
 ghost use Rattle.fold.specs.Fold.{there};
 ghost use Rattle.requests.specs.Meaning.{answered};
-ghost use Rattle.private.specs.SeePage.{see_process};
-ghost use Rattle.private.specs.See.{see, alive_at, process_seen, page_at, inside_at, reached_at, free_at, used_at, shared_at, load_at, segment_at};
+ghost use Rattle.private.specs.Called.{world};
+ghost use Rattle.private.specs.See.{see, page_at, inside_at, reached_at, free_at, used_at, shared_at, load_at, segment_at};
 
+use super::machine::Machine;
 use super::memory::Memory;
-use super::page::{BYTES, Page, Sought};
-use super::process::Process;
+use super::page::{Address, BYTES, Page, Sought, byte_at};
 use requests::answer::Answer;
-use requests::sizes::Sizes;
 
 impl Memory {
-    pub(crate) fn living(&self, process: usize) -> Option<&Process>
-        ensures { MatchOption result (alive_at (see self.now) process ≡ false) (λ q. (see_process q.now ≡ process_seen (see self.now) process) × (alive_at (see self.now) process ≡ true)) }
+    pub(crate) fn has_page(&self, place: Address) -> bool
+        ensures { result ≡ there (page_at (see self.now) place.process place.page) }
     {
-        if !self.is_alive(process) || process >= self.processes.len() {
-            return None;
-        }
-        Some(&self.processes[process])
-    }
-
-    // Whether a process is there and may have a page of that number.
-    pub(crate) fn is_inside(&self, sizes: Sizes, process: usize, page: usize) -> bool
-        ensures { result ≡ inside_at sizes (see self.now) process page }
-    {
-        self.is_alive(process) && page < sizes.pages
-    }
-
-    // Whether it may have that page, and a page has that byte.
-    pub(crate) fn reaches(&self, sizes: Sizes, process: usize, page: usize, offset: usize) -> bool
-        ensures { result ≡ reached_at sizes (see self.now) process page offset }
-    {
-        self.is_inside(sizes, process, page) && offset < BYTES
-    }
-
-    pub(crate) fn has_page(&self, process: usize, page: usize) -> bool
-        ensures { result ≡ there (page_at (see self.now) process page) }
-    {
-        match self.page(process, page) {
-            Some(page) => page.is_there(),
-            None => false,
-        }
-    }
-
-    pub(crate) fn is_free(&self, sizes: Sizes, process: usize, page: usize) -> bool
-        ensures { result ≡ free_at sizes (see self.now) process page }
-    {
-        self.is_inside(sizes, process, page) && !self.has_page(process, page)
-    }
-
-    pub(crate) fn is_used(&self, sizes: Sizes, process: usize, page: usize) -> bool
-        ensures { result ≡ used_at sizes (see self.now) process page }
-    {
-        self.is_inside(sizes, process, page) && self.has_page(process, page)
+        self.page(place).is_some_and(Page::is_there)
     }
 
     // Whether a page of that label is not the only one, or is a page of zeros that nobody has stored to.
@@ -67,37 +28,54 @@ impl Memory {
     pub(crate) fn segment_byte(&self, segment: usize, offset: usize) -> u8
         ensures { result ≡ slice_index (segment_at (see self.now) segment) offset }
     {
-        if segment < self.segments.len() {
-            byte_at(self.segments[segment].as_slice(), offset)
-        } else {
-            0
-        }
-    }
-
-    pub(crate) fn load(&self, sizes: Sizes, process: usize, page: usize, offset: usize) -> Answer
-        ensures { answered result ≡ load_at sizes process page offset (see self.now) }
-    {
-        if !self.reaches(sizes, process, page, offset) {
-            return Answer::Fault;
-        }
-        let Some(page) = self.page(process, page) else {
-            return Answer::Fault;
-        };
-        match page {
-            Page::Own { bytes, .. } => Answer::Done(byte_at(bytes.as_slice(), offset) as u64),
-            Page::Segment(number) => Answer::Done(self.segment_byte(*number, offset) as u64),
-            Page::Absent => Answer::Fault,
-        }
+        self.segments
+            .get(segment)
+            .map_or(0, |bytes| byte_at(bytes.as_slice(), offset))
     }
 }
 
-// A byte, or 0 past the end.
-fn byte_at(bytes: &[u8], offset: usize) -> u8
-    ensures { result ≡ slice_index bytes.now offset }
-{
-    if offset < bytes.len() {
-        bytes[offset]
-    } else {
-        0
+impl Machine {
+    // Whether a process is there and may have a page of that number.
+    pub(crate) fn is_inside(&self, place: Address) -> bool
+        ensures { result ≡ inside_at self.now.sizes (world self.now) place.process place.page }
+    {
+        self.memory.is_alive(place.process) && place.page < self.sizes.pages
+    }
+
+    // Whether it may have that page, and a page has that byte.
+    pub(crate) fn reaches(&self, place: Address, offset: usize) -> bool
+        ensures { result ≡ reached_at self.now.sizes (world self.now) place.process place.page offset }
+    {
+        self.is_inside(place) && offset < BYTES
+    }
+
+    pub(crate) fn is_free(&self, place: Address) -> bool
+        ensures { result ≡ free_at self.now.sizes (world self.now) place.process place.page }
+    {
+        self.is_inside(place) && !self.memory.has_page(place)
+    }
+
+    pub(crate) fn is_used(&self, place: Address) -> bool
+        ensures { result ≡ used_at self.now.sizes (world self.now) place.process place.page }
+    {
+        self.is_inside(place) && self.memory.has_page(place)
+    }
+
+    pub(crate) fn load(&self, place: Address, offset: usize) -> Answer
+        ensures { answered result ≡ load_at self.now.sizes place.process place.page offset (world self.now) }
+    {
+        if !self.reaches(place, offset) {
+            return Answer::Fault;
+        }
+        let Some(page) = self.memory.page(place) else {
+            return Answer::Fault;
+        };
+        match page {
+            Page::Own { bytes, .. } => Answer::Done(u64::from(byte_at(bytes.as_slice(), offset))),
+            Page::Segment(number) => {
+                Answer::Done(u64::from(self.memory.segment_byte(*number, offset)))
+            }
+            Page::Absent => Answer::Fault,
+        }
     }
 }

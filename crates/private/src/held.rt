@@ -2,11 +2,12 @@
 ghost use Rattle.std.specs.Prelude.{◌≡◌, ◌++◌, map, IfOk, OnOk};
 ghost use Rattle.private.specs.Labelled.{page_labels, all_labels, changes};
 ghost use Rattle.private.specs.SeePage.{see_page};
-ghost use Rattle.private.specs.See.{see, full_at, looked_at, all_held, Labels};
+ghost use Rattle.private.specs.See.{see, full_at, looked_at, all_held};
+ghost use Rattle.private.specs.Called.{world};
 
+use super::machine::Machine;
 use super::memory::Memory;
 use super::page::{Page, Sought};
-use requests::sizes::Sizes;
 use std::alloc::AllocError;
 
 impl Memory {
@@ -27,30 +28,26 @@ impl Memory {
     fn held_segments(&self) -> usize
         ensures { result ≡ looked_at (see self.now) }
     {
-        let mut count = 0;
-        for i in 0..self.segments.len() {
-            if self.has(1, Sought::Looking(i)) {
-                count += 1;
-            }
-        }
-        count
+        (0..self.segments.len())
+            .filter(|segment| self.has(1, Sought::Looking(*segment)))
+            .count()
     }
+}
 
+impl Machine {
     // Counted afresh each time.
     fn held(&self) -> Result<u128, AllocError>
-        requires { Labels (see self.now) }
-        ensures { IfOk result (λ n. n ≡ all_held (see self.now)) }
+        ensures { IfOk result (λ n. n ≡ all_held (world self.now)) }
     {
-        let mut labels = self.labels()?;
+        let mut labels = self.memory.labels()?;
         labels.sort_unstable();
-        Ok(distinct(labels.as_slice()) as u128 + self.held_segments() as u128)
+        Ok(distinct(labels.as_slice()) as u128 + self.memory.held_segments() as u128)
     }
 
-    pub(crate) fn is_full(&self, sizes: Sizes) -> Result<bool, AllocError>
-        requires { Labels (see self.now) }
-        ensures { IfOk result (λ b. b ≡ full_at sizes (see self.now)) }
+    pub(crate) fn is_full(&self) -> Result<bool, AllocError>
+        ensures { IfOk result (λ b. b ≡ full_at self.now.sizes (world self.now)) }
     {
-        Ok(sizes.frames as u128 + sizes.places as u128 <= self.held()?)
+        Ok(self.sizes.frames as u128 + self.sizes.places as u128 <= self.held()?)
     }
 }
 
@@ -66,7 +63,8 @@ fn add_labels(labels: &mut Vec<u64>, pages: &[Page]) -> Result<(), AllocError>
     Ok(())
 }
 
-// How many different numbers other than 0 there are in a sorted list.
+// How many different numbers other than 0 there are in a sorted list. The last label goes along with the count, so no chain says it
+// more plainly.
 fn distinct(sorted: &[u64]) -> usize
     ensures { result ≡ changes 0 sorted.now }
 {

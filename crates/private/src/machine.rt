@@ -1,5 +1,5 @@
 // The machine: its sizes and its memory.
-ghost use Rattle.private.specs.See.{see, Rows, Labels};
+ghost use Rattle.private.specs.See.{see, Rows, Labels, Room};
 
 use super::memory::Memory;
 use requests::sizes::Sizes;
@@ -10,4 +10,5 @@ pub struct Machine {
     pub(crate) memory: Memory,
     ghost rows: { Rows sizes (see memory) },
     ghost labels: { Labels (see memory) },
+    ghost room: { Room sizes (see memory) },
 }

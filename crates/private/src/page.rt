@@ -1,5 +1,5 @@
 // A page of a process.
-ghost use Rattle.std.specs.Prelude.{◌≡◌, replicate, IfOk, if◌then◌else◌};
+ghost use Rattle.std.specs.Prelude.{◌≡◌, replicate, IfOk, if◌then◌else◌, slice_index, slice_set};
 ghost use Rattle.fold.specs.Fold.{there};
 ghost use Rattle.private.specs.SeePage.{see_page, matching, rewritten};
 
@@ -10,11 +10,18 @@ pub const BYTES: usize = 256;
 
 // Not there; its own, with a label and bytes; or a segment, by its number. Pages of one label were one page and have not been
 // stored to since. Label 0 is a page of zeros that nobody has stored to.
-#[derive(Drop)]
+#[derive(Clone, Drop)]
 pub enum Page {
     Absent,
     Own { label: u64, bytes: Vec<u8> },
     Segment(usize),
+}
+
+// Which page: of which process, and which of its pages.
+#[derive(Clone, Copy)]
+pub struct Address {
+    pub process: usize,
+    pub page: usize,
 }
 
 // Which pages to count: those of a label, or those that are a segment.
@@ -31,43 +38,36 @@ pub(crate) fn zeros(heap: Global) -> Result<Vec<u8>, AllocError>
     Vec::from_elem(heap, 0, BYTES)
 }
 
+// A byte, or 0 past the end.
+pub(crate) fn byte_at(bytes: &[u8], offset: usize) -> u8
+    ensures { result ≡ slice_index bytes.now offset }
+{
+    bytes.get(offset).copied().unwrap_or(0)
+}
+
+// Past the end nothing is put.
+pub(crate) fn put_at(bytes: &mut Vec<u8>, offset: usize, byte: u8)
+    ensures { bytes.new.items ≡ slice_set bytes.old.items offset byte }
+{
+    if let Some(place) = bytes.get_mut(offset) {
+        *place = byte;
+    }
+}
+
 impl Page {
     pub(crate) fn is_there(&self) -> bool
         ensures { result ≡ there (see_page self.now) }
     {
-        match self {
-            Page::Absent => false,
-            _ => true,
-        }
+        !matches!(self, Page::Absent)
     }
 
     pub(crate) fn is_sought(&self, sought: Sought) -> bool
         ensures { matching sought (see_page self.now) ≡ (if result then 1 else 0) }
     {
-        match sought {
-            Sought::Labelled(wanted) => match self {
-                Page::Own { label, .. } => wanted == *label,
-                _ => false,
-            },
-            Sought::Looking(wanted) => match self {
-                Page::Segment(number) => wanted == *number,
-                _ => false,
-            },
-        }
-    }
-
-    // The same page with bytes of its own.
-    pub(crate) fn copied(&self, heap: Global) -> Result<Page, AllocError>
-        ensures { IfOk result (λ p. see_page p ≡ see_page self.now) }
-    {
-        match self {
-            Page::Absent => Ok(Page::Absent),
-            Page::Own { label, bytes } => {
-                let label = *label;
-                let bytes = Vec::from_slice(heap, bytes.as_slice())?;
-                Ok(Page::Own { label, bytes })
-            }
-            Page::Segment(number) => Ok(Page::Segment(*number)),
+        match (sought, self) {
+            (Sought::Labelled(wanted), Page::Own { label, .. }) => wanted == *label,
+            (Sought::Looking(wanted), Page::Segment(number)) => wanted == *number,
+            _ => false,
         }
     }
 
@@ -77,9 +77,7 @@ impl Page {
     {
         if let Page::Own { label, bytes } = self {
             *label = new_label;
-            if offset < bytes.len() {
-                bytes[offset] = byte;
-            }
+            put_at(bytes, offset, byte);
         }
     }
 }

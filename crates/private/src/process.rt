@@ -6,8 +6,9 @@ ghost use Rattle.private.specs.SeePage.{see_page, see_process, matching, blank, 
 use super::page::{Page, Sought};
 use std::alloc::{AllocError, Global};
 
-#[derive(Drop)]
+#[derive(Clone, Drop)]
 pub struct Process {
+    // A flag, and no Option: a process that left is seen with as many pages as before, all absent.
     pub alive: bool,
     pub pages: Vec<Page>,
 }
@@ -17,25 +18,8 @@ impl Process {
     pub(crate) fn empty(heap: Global, alive: bool, count: usize) -> Result<Process, AllocError>
         ensures { IfOk result (λ q. see_process q ≡ blank alive count) }
     {
-        let mut pages = Vec::with_capacity(heap, count)?;
-        for _ in 0..count {
-            pages.push(Page::Absent)?;
-        }
+        let pages = Vec::from_elem(heap, Page::Absent, count)?;
         Ok(Process { alive, pages })
-    }
-
-    // The same process with pages of its own.
-    pub(crate) fn copied(&self, heap: Global) -> Result<Process, AllocError>
-        ensures { IfOk result (λ q. see_process q ≡ see_process self.now) }
-    {
-        let mut pages = Vec::with_capacity(heap, self.pages.len())?;
-        for page in self.pages.iter() {
-            pages.push(page.copied(heap)?)?;
-        }
-        Ok(Process {
-            alive: self.alive,
-            pages,
-        })
     }
 
     // How many of its pages are sought, if it is there.
@@ -45,21 +29,18 @@ impl Process {
         if !self.alive {
             return 0;
         }
-        let mut count = 0;
-        for page in self.pages.iter() {
-            if page.is_sought(sought) {
-                count += 1;
-            }
-        }
-        count
+        self.pages
+            .iter()
+            .filter(|page| page.is_sought(sought))
+            .count()
     }
 
     // Past its pages nothing is put.
     pub(crate) fn put(&mut self, page: usize, new: Page)
         ensures { see_process self.new ≡ put_in (see_process self.old) page (see_page new) }
     {
-        if page < self.pages.len() {
-            self.pages[page] = new;
+        if let Some(place) = self.pages.get_mut(page) {
+            *place = new;
         }
     }
 
@@ -68,17 +49,15 @@ impl Process {
         ensures { see_process self.new ≡ blank false (vec_len self.old.pages) }
     {
         self.alive = false;
-        for page in 0..self.pages.len() {
-            self.pages[page] = Page::Absent;
-        }
+        self.pages.fill(Page::Absent);
     }
 
     // An own page gets a byte and, it may be, another label.
     pub(crate) fn store(&mut self, page: usize, label: u64, offset: usize, byte: u8)
         ensures { see_process self.new ≡ rewritten_in (see_process self.old) page label offset byte }
     {
-        if page < self.pages.len() {
-            self.pages[page].store(label, offset, byte);
+        if let Some(page) = self.pages.get_mut(page) {
+            page.store(label, offset, byte);
         }
     }
 }

@@ -6,6 +6,7 @@ ghost use Rattle.private.specs.Called.{Opened, Called};
 
 use super::machine::Machine;
 use super::memory::Memory;
+use super::page::Address;
 use super::process::Process;
 use super::want::Want;
 use requests::answer::Answer;
@@ -33,33 +34,35 @@ impl Machine {
     pub fn call(&mut self, call: Call) -> Result<Answer, Want>
         ensures { Called self.old call result self.new }
     {
-        let sizes = self.sizes;
         match call {
-            Call::Fork { process } => self.memory.fork(sizes, process),
-            Call::Leave { process } => Ok(self.memory.go(sizes, process)),
-            Call::Map { process, page } => self.memory.map(sizes, process, page),
-            Call::Drop { process, page } => Ok(self.memory.drop_page(sizes, process, page)),
-            Call::Make { process, page } => self.memory.make(sizes, process, page),
+            Call::Fork { process } => self.fork(process),
+            Call::Leave { process } => Ok(self.go(process)),
+            Call::Map { process, page } => self.map(Address { process, page }),
+            Call::Drop { process, page } => Ok(self.drop_page(Address { process, page })),
+            Call::Make { process, page } => self.make(Address { process, page }),
             Call::Look {
                 process,
                 page,
                 from_process,
                 from_page,
-            } => Ok(
-                self.memory
-                    .look(sizes, process, page, from_process, from_page),
-            ),
+            } => {
+                let from = Address {
+                    process: from_process,
+                    page: from_page,
+                };
+                Ok(self.look(Address { process, page }, from))
+            }
             Call::Load {
                 process,
                 page,
                 offset,
-            } => Ok(self.memory.load(sizes, process, page, offset)),
+            } => Ok(self.load(Address { process, page }, offset)),
             Call::Store {
                 process,
                 page,
                 offset,
                 byte,
-            } => self.memory.store(sizes, process, page, offset, byte),
+            } => self.store(Address { process, page }, offset, byte),
             Call::Counts => Ok(Answer::Done(0)),
         }
     }

@@ -1,168 +1,132 @@
 // The calls, one by one. What can fail for want of memory is done before anything changes.
 ghost use Rattle.std.specs.Prelude.{Ok};
-ghost use Rattle.private.specs.See.{see, Rows, Labels, Forks, Leaves, Maps, Drops, Shares, Looks, Stores, StoresOwn};
+ghost use Rattle.requests.specs.declared.request.Call.TheVariants.{Fork, Leave, Map, Drop, Make, Look, Store};
+ghost use Rattle.private.specs.Called.{Called};
 
-use super::memory::Memory;
-use super::page::{Page, zeros};
+use super::machine::Machine;
+use super::page::{Address, Page, zeros};
 use super::want::Want;
 use requests::answer::Answer;
-use requests::sizes::Sizes;
 
-impl Memory {
-    pub(crate) fn fork(&mut self, sizes: Sizes, process: usize) -> Result<Answer, Want>
-        ensures { Forks sizes process (see self.old) result (see self.new) }
+impl Machine {
+    pub(crate) fn fork(&mut self, process: usize) -> Result<Answer, Want>
+        ensures { Called self.old (Fork process) result self.new }
     {
-        let Some(parent) = self.living(process) else {
+        let Some(parent) = self.memory.living(process) else {
             return Ok(Answer::Fault);
         };
-        let child = self.free_process();
-        if child >= sizes.processes {
+        let Some(child) = self.memory.free_process() else {
             return Ok(Answer::Full);
-        }
-        let copy = parent.copied(self.heap)?;
-        self.put_process(child, copy);
+        };
+        let copy = parent.clone()?;
+        self.memory.put_process(child, copy);
         Ok(Answer::Done(child as u64))
     }
 
-    pub(crate) fn go(&mut self, sizes: Sizes, process: usize) -> Answer
-        requires { Rows sizes (see self.old) }
-        ensures { Leaves sizes process (see self.old) (Ok result) (see self.new) }
+    pub(crate) fn go(&mut self, process: usize) -> Answer
+        ensures { Called self.old (Leave process) (Ok result) self.new }
     {
-        if !self.is_alive(process) {
+        if !self.memory.is_alive(process) {
             return Answer::Fault;
         }
-        self.leave(process);
+        self.memory.leave(process);
         Answer::Done(0)
     }
 
-    pub(crate) fn map(&mut self, sizes: Sizes, process: usize, page: usize) -> Result<Answer, Want>
-        ensures { Maps sizes process page (see self.old) result (see self.new) }
+    pub(crate) fn map(&mut self, place: Address) -> Result<Answer, Want>
+        ensures { Called self.old (Map place.process place.page) result self.new }
     {
-        if !self.is_free(sizes, process, page) {
+        if !self.is_free(place) {
             return Ok(Answer::Fault);
         }
-        let bytes = zeros(self.heap)?;
-        self.put_page(process, page, Page::Own { label: 0, bytes });
+        let bytes = zeros(self.memory.heap)?;
+        self.memory.put_page(place, Page::Own { label: 0, bytes });
         Ok(Answer::Done(0))
     }
 
-    pub(crate) fn drop_page(&mut self, sizes: Sizes, process: usize, page: usize) -> Answer
-        ensures { Drops sizes process page (see self.old) (Ok result) (see self.new) }
+    pub(crate) fn drop_page(&mut self, place: Address) -> Answer
+        ensures { Called self.old (Drop place.process place.page) (Ok result) self.new }
     {
-        if !self.is_used(sizes, process, page) {
+        if !self.is_used(place) {
             return Answer::Fault;
         }
-        self.put_page(process, page, Page::Absent);
+        self.memory.put_page(place, Page::Absent);
         Answer::Done(0)
     }
 
-    pub(crate) fn make(&mut self, sizes: Sizes, process: usize, page: usize) -> Result<Answer, Want>
-        requires { Labels (see self.old) }
-        ensures { Shares sizes process page (see self.old) result (see self.new) }
+    pub(crate) fn make(&mut self, place: Address) -> Result<Answer, Want>
+        ensures { Called self.old (Make place.process place.page) result self.new }
     {
-        if !self.is_free(sizes, process, page) {
+        if !self.is_free(place) {
             return Ok(Answer::Fault);
         }
-        let segment = self.free_segment();
-        if segment >= sizes.segments {
+        let Some(segment) = self.memory.free_segment() else {
+            return Ok(Answer::Full);
+        };
+        if self.is_full()? {
             return Ok(Answer::Full);
         }
-        if self.is_full(sizes)? {
-            return Ok(Answer::Full);
-        }
-        let bytes = zeros(self.heap)?;
-        self.put_segment(segment, bytes);
-        self.put_page(process, page, Page::Segment(segment));
+        let bytes = zeros(self.memory.heap)?;
+        self.memory.put_segment(segment, bytes);
+        self.memory.put_page(place, Page::Segment(segment));
         Ok(Answer::Done(segment as u64))
     }
 
-    pub(crate) fn look(
-        &mut self,
-        sizes: Sizes,
-        process: usize,
-        page: usize,
-        from_process: usize,
-        from_page: usize,
-    ) -> Answer
-        ensures { Looks sizes process page from_process from_page (see self.old) (Ok result) (see self.new) }
+    // The page at `place` becomes the segment that is at `from`.
+    pub(crate) fn look(&mut self, place: Address, from: Address) -> Answer
+        ensures { Called self.old (Look place.process place.page from.process from.page) (Ok result) self.new }
     {
-        if !self.is_free(sizes, process, page) {
+        if !self.is_free(place) {
             return Answer::Fault;
         }
-        if !self.is_inside(sizes, from_process, from_page) {
+        if !self.is_inside(from) {
             return Answer::Fault;
         }
-        let Some(shown) = self.page(from_process, from_page) else {
+        let Some(shown) = self.memory.page(from) else {
             return Answer::Fault;
         };
         match shown {
             Page::Segment(number) => {
                 let number = *number;
-                self.put_page(process, page, Page::Segment(number));
+                self.memory.put_page(place, Page::Segment(number));
                 Answer::Done(number as u64)
             }
-            Page::Own { .. } => Answer::Fault,
-            Page::Absent => Answer::Fault,
+            Page::Own { .. } | Page::Absent => Answer::Fault,
         }
     }
 
-    pub(crate) fn store(
-        &mut self,
-        sizes: Sizes,
-        process: usize,
-        page: usize,
-        offset: usize,
-        byte: u8,
-    ) -> Result<Answer, Want>
-        requires { Labels (see self.old) }
-        ensures { Stores sizes process page offset byte (see self.old) result (see self.new) }
+    // An own page that shares its label gets one of its own first, which has to be held anew.
+    pub(crate) fn store(&mut self, place: Address, offset: usize, byte: u8) -> Result<Answer, Want>
+        ensures { Called self.old (Store place.process place.page offset byte) result self.new }
     {
-        if !self.reaches(sizes, process, page, offset) {
+        if !self.reaches(place, offset) {
             return Ok(Answer::Fault);
         }
-        let Some(target) = self.page(process, page) else {
+        let Some(target) = self.memory.page(place) else {
             return Ok(Answer::Fault);
         };
-        match target {
-            Page::Own { label, .. } => {
-                let label = *label;
-                self.store_own(sizes, process, page, label, offset, byte)
-            }
+        let label = match target {
+            Page::Own { label, .. } => *label,
             Page::Segment(number) => {
                 let number = *number;
-                self.put_segment_byte(number, offset, byte);
-                Ok(Answer::Done(0))
+                self.memory.put_segment_byte(number, offset, byte);
+                return Ok(Answer::Done(0));
             }
-            Page::Absent => Ok(Answer::Fault),
-        }
-    }
-
-    // A page that shares its label gets one of its own first, which has to be held anew.
-    fn store_own(
-        &mut self,
-        sizes: Sizes,
-        process: usize,
-        page: usize,
-        label: u64,
-        offset: usize,
-        byte: u8,
-    ) -> Result<Answer, Want>
-        requires { Labels (see self.old) }
-        ensures { StoresOwn sizes process page label offset byte (see self.old) result (see self.new) }
-    {
-        if !self.shares(label) {
-            self.put_byte(process, page, label, offset, byte);
+            Page::Absent => return Ok(Answer::Fault),
+        };
+        if !self.memory.shares(label) {
+            self.memory.put_byte(place, label, offset, byte);
             return Ok(Answer::Done(0));
         }
-        if self.is_full(sizes)? {
+        if self.is_full()? {
             return Ok(Answer::Full);
         }
-        let fresh = self.next;
+        let fresh = self.memory.next;
         if fresh == u64::MAX {
             return Err(Want::Labels);
         }
-        self.put_byte(process, page, fresh, offset, byte);
-        self.next = fresh + 1;
+        self.memory.put_byte(place, fresh, offset, byte);
+        self.memory.next = fresh + 1;
         Ok(Answer::Done(0))
     }
 }

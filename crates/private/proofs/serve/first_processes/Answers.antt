@@ -25,6 +25,3 @@ loop-preserved c =
           ∙ ap (λ n. blank true k ∷ others k n) (omega arith),
       omega arith,
     )
-
-pub returns : goal.returns
-returns c = c.loop.invariant.0 ∙ ap (λ n. blank true c.args.sizes.pages ∷ others c.args.sizes.pages n) (omega arith)

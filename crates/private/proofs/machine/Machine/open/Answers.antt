@@ -9,8 +9,8 @@ use Rattle.private.proofs.machine.Machine.open.Goals as goal
 pub invariant_of-result : goal.invariant_of-result
 invariant_of-result c =
     let m : Memory = record { heap = c.args.heap; processes = c.in_ok-processes.processes; segments = c.in_ok-segments.segments; next = 1 } in
-    let k = begins_kept c.args.sizes (c.args.sizes.processes - 1) (see m) c.in_ok-processes.ensures refl in
-    record { rows = k.0; labels = k.1 }
+    let k = begins_kept c.args.sizes (see m) c.in_ok-processes.ensures c.in_ok-segments.ensures refl in
+    record { rows = k.0; labels = k.1; room = k.2 }
 
 pub returns : goal.returns
 unfolding fold.begin

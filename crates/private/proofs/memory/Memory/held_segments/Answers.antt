@@ -1,27 +1,22 @@
-use Rattle.std.proofs.Common.{◌≡◌, length, sym, refl, ap, ◌∙◌, arith}
+use Rattle.std.proofs.Common.{vec_items, leb, sym, ◌∙◌, ap, arith, rules, tests}
+use Rattle.std.proofs.lemmas.Iterator.{YieldsList-from_range}
+use Rattle.std.proofs.lemmas.Iterator.Consumers.{YieldsList-from_filter, count_from_yields_List}
 use Rattle.std.proofs.lemmas.List.{length-map}
+use Rattle.std.proofs.lemmas.List.Sums.{length-filter}
+use Rattle.std.specs.List.{range_with_len}
 use Rattle.fold.specs.Fold.{segments_from, lookers}
 use Rattle.private.specs.See.{see}
-use Rattle.private.proofs.Worlds.{segments_one_more, segments_no_more}
+use Rattle.private.proofs.Worlds.{segments_counted}
 use Rattle.private.proofs.memory.Memory.held_segments.Goals as goal
-use Rattle.private.proofs.memory.Memory.held_segments.Goals.{then-has, else-has}
-
-pub loop-i-init : goal.loop-i-init
-unfolding segments_from
-loop-i-init c = (refl, omega arith)
-
-pub loop-i-preserved : goal.loop-i-preserved
-unfolding lookers
-loop-i-preserved c =
-    let w = see c.args.self.now in
-    let i = c.loop-i.i in
-    elim c.if-has.branch [
-      | then-has h ↦ let more = segments_one_more w i (sym h.if-has.ensures) in (omega arith, omega arith)
-      | else-has h ↦ let more = segments_no_more w i (sym h.if-has.ensures) in (omega arith, omega arith)
-    ]
 
 pub returns : goal.returns
+unfolding lookers
 returns c =
-    let w = see c.args.self.now in
-    let all : c.loop-i.i ≡ length w.segments = rw length-map (omega arith) in
-    c.loop-i.invariant.0 ∙ ap (segments_from w) all
+    let m = c.args.self.now in
+    let w = see m in
+    let n = c.len.result in
+    count_from_yields_List c.filter.result c.count.result c.count.ensures.ran
+    (YieldsList-from_filter _ (λ s. leb 1 (lookers w s)) (YieldsList-from_range 0 n n (cc) (omega arith)) c.filter.ensures.closure (λ x b q h. search (rules, tests)))
+    ∙ length-filter (λ s. leb 1 (lookers w s)) (range_with_len 0 n)
+    ∙ segments_counted w n
+    ∙ ap (segments_from w) (c.len.ensures ∙ m.segments.ok.0 ∙ sym (length-map (vec_items m.segments) vec_items))

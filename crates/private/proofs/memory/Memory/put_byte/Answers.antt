@@ -1,18 +1,18 @@
-use Rattle.std.proofs.Common.{arith}
+use Rattle.std.proofs.Common.{refl}
 use Rattle.fold.specs.Fold as fold
 use Rattle.private.specs.See.{see}
 use Rattle.private.specs.SeePage.{rewritten_in}
-use Rattle.private.proofs.Worlds.{edited, put_process_past}
+use Rattle.private.proofs.Worlds.{edited, put_process_past, past_end}
 use Rattle.private.proofs.memory.Memory.put_byte.Goals as goal
 
-pub returns-then-process-len : goal.returns-then-process-len
-returns-then-process-len c =
-    edited c.args.self.now c.args.process c.index_mut.result.now c.store.new.self
-    (λ (r : fold.Process). rewritten_in r c.args.page c.args.label c.args.offset c.args.byte)
-    (omega arith) c.index_mut.ensures.value c.store.ensures
+pub returns-in-Some : goal.returns-in-Some
+returns-in-Some c =
+    edited c.args.self.now c.args.place.process c.in-Some.process.now c.store.new.self
+    (λ (r : fold.Process). rewritten_in r c.args.place.page c.args.label c.args.offset c.args.byte)
+    (c.in-Some.ensures.variant.0 refl) c.in-Some.ensures.value c.store.ensures
 
-pub returns-else-process-len : goal.returns-else-process-len
-returns-else-process-len c =
-    put_process_past c.args.self.now c.args.process
-    (rewritten_in (fold.process (see c.args.self.now) c.args.process) c.args.page c.args.label c.args.offset c.args.byte)
-    (omega arith)
+pub returns-in_default : goal.returns-in_default
+returns-in_default c =
+    put_process_past c.args.self.now c.args.place.process
+    (rewritten_in (fold.process (see c.args.self.now) c.args.place.process) c.args.place.page c.args.label c.args.offset c.args.byte)
+    (past_end _ _ c.in_default.ensures.variant.1)

@@ -18,24 +18,24 @@ not_segment w Absent h = refl
 not_segment w (Own l b) h = refl
 not_segment w (Segment s) h = absurd (h s refl)
 
-pub returns-in-Own : goal.returns-in-Own
+pub returns-in-Labelled-Own : goal.returns-in-Labelled-Own
 unfolding is_own
-returns-in-Own c =
-    ap (λ k. matching k (see_page c.args.self.now)) c.in-Labelled.is
-    ∙ ap (λ p. is_own c.in-Labelled.wanted (see_page p)) c.in-Own.is
+returns-in-Labelled-Own c =
+    ap (λ k. matching k (see_page c.args.self.now)) c.in-Labelled-Own.is-0
+    ∙ ap (λ p. is_own c.in-Labelled-Own.wanted (see_page p)) c.in-Labelled-Own.is-1
 
 pub returns-in_default : goal.returns-in_default
 returns-in_default c =
-    ap (λ k. matching k (see_page c.args.self.now)) c.in-Labelled.is
-    ∙ not_own c.in-Labelled.wanted c.args.self.now c.in_default.not-Own
+    ap (λ k. matching k (see_page c.args.self.now)) c.in_default.is-0
+    ∙ not_own c.in_default.field-0-0 c.args.self.now c.in_default.not-Own-1
 
-pub returns-in-Segment : goal.returns-in-Segment
+pub returns-in-Looking-Segment : goal.returns-in-Looking-Segment
 unfolding is_seen
-returns-in-Segment c =
-    ap (λ k. matching k (see_page c.args.self.now)) c.in-Looking.is
-    ∙ ap (λ p. is_seen c.in-Looking.wanted (see_page p)) c.in-Segment.is
+returns-in-Looking-Segment c =
+    ap (λ k. matching k (see_page c.args.self.now)) c.in-Looking-Segment.is-0
+    ∙ ap (λ p. is_seen c.in-Looking-Segment.wanted (see_page p)) c.in-Looking-Segment.is-1
 
-pub returns-in_default-self : goal.returns-in_default-self
-returns-in_default-self c =
-    ap (λ k. matching k (see_page c.args.self.now)) c.in-Looking.is
-    ∙ not_segment c.in-Looking.wanted c.args.self.now c.in_default-self.not-Segment
+pub returns-in_default-2 : goal.returns-in_default-2
+returns-in_default-2 c =
+    ap (λ k. matching k (see_page c.args.self.now)) c.in_default.is-0
+    ∙ not_segment c.in_default.field-0-0 c.args.self.now c.in_default.not-Segment-1
