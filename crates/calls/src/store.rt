@@ -71,7 +71,8 @@ fn store_own(manager: Manager, memory: &mut Memory<'_>, store: Store) -> (Manage
     }
 }
 
-// Stores to a segment, for all who look at it.
+// Stores to a segment, for all who look at it. What it shares with a store to an own page is `wrote`; the rest differs in what is called and in
+// what a None means.
 fn store_segment(manager: Manager, memory: &mut Memory<'_>, store: Store) -> (Manager, Answer)
     requires { Inside memory.old.processes memory.old.pages store }
     ensures same { result.0.sizes ≡ manager.sizes }

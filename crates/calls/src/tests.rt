@@ -7,6 +7,22 @@ use requests::sizes::Sizes;
 use std::test::Fail;
 use tables::lent::Lent;
 
+// All memory, list by list.
+macro_rules! lent {
+    ($table:expr, $segments:expr, $lookers:expr, $counts:expr, $used:expr, $places:expr, $frames:expr, $disk:expr) => {
+        Lent {
+            table: $table,
+            segments: $segments,
+            lookers: $lookers,
+            frame_counts: $counts,
+            used: $used,
+            place_counts: $places,
+            frames: $frames,
+            disk: $disk,
+        }
+    };
+}
+
 const SIZES: Sizes = Sizes {
     processes: 2,
     pages: 1,
@@ -23,32 +39,32 @@ fn memory_is_measured_first(rt: HostRuntime) {
     let (mut frames, mut short, mut long) = ([7u8; 256], [7u8; 255], [7u8; 257]);
     let refused = open(
         SIZES,
-        &mut Lent {
-            table: &mut table,
-            segments: &mut segments,
-            lookers: &mut lookers,
-            frame_counts: &mut counts,
-            used: &mut used,
-            place_counts: &mut places,
-            frames: &mut frames,
-            disk: &mut short,
-        },
+        &mut lent!(
+            &mut table,
+            &mut segments,
+            &mut lookers,
+            &mut counts,
+            &mut used,
+            &mut places,
+            &mut frames,
+            &mut short
+        ),
     );
     assert!(rt;
         matches!(refused, Err(Refusal::Lent(Part::Disk))) && table[0] == 7 && frames[0] == 7
     );
     let opened = open(
         SIZES,
-        &mut Lent {
-            table: &mut table,
-            segments: &mut segments,
-            lookers: &mut lookers,
-            frame_counts: &mut counts,
-            used: &mut used,
-            place_counts: &mut places,
-            frames: &mut frames,
-            disk: &mut long,
-        },
+        &mut lent!(
+            &mut table,
+            &mut segments,
+            &mut lookers,
+            &mut counts,
+            &mut used,
+            &mut places,
+            &mut frames,
+            &mut long
+        ),
     );
     assert!(rt; opened.is_ok() && table[0] == 0 && table[1] == 0 && table[2] == 7);
     assert!(rt; long[255] == 0 && long[256] == 7);
@@ -62,16 +78,16 @@ fn damaged_memory_is_answered(rt: HostRuntime) -> Result<(), Fail> {
     let (mut frames, mut disk) = ([0u8; 256], [0u8; 256]);
     let opened = open(
         SIZES,
-        &mut Lent {
-            table: &mut table,
-            segments: &mut segments,
-            lookers: &mut lookers,
-            frame_counts: &mut counts,
-            used: &mut used,
-            place_counts: &mut places,
-            frames: &mut frames,
-            disk: &mut disk,
-        },
+        &mut lent!(
+            &mut table,
+            &mut segments,
+            &mut lookers,
+            &mut counts,
+            &mut used,
+            &mut places,
+            &mut frames,
+            &mut disk
+        ),
     );
     let Ok(mut manager) = opened else {
         return Err(Fail::new("not opened"));
@@ -81,16 +97,16 @@ fn damaged_memory_is_answered(rt: HostRuntime) -> Result<(), Fail> {
     segments = [65535];
     let absent = call(
         &mut manager,
-        &mut Lent {
-            table: &mut table,
-            segments: &mut segments,
-            lookers: &mut lookers,
-            frame_counts: &mut counts,
-            used: &mut used,
-            place_counts: &mut places,
-            frames: &mut frames,
-            disk: &mut disk,
-        },
+        &mut lent!(
+            &mut table,
+            &mut segments,
+            &mut lookers,
+            &mut counts,
+            &mut used,
+            &mut places,
+            &mut frames,
+            &mut disk
+        ),
         Call::Drop {
             process: 0,
             page: 0,
@@ -101,16 +117,16 @@ fn damaged_memory_is_answered(rt: HostRuntime) -> Result<(), Fail> {
     table = [4, 14];
     let dropped = call_by_numbers(
         &mut manager,
-        &mut Lent {
-            table: &mut table,
-            segments: &mut segments,
-            lookers: &mut lookers,
-            frame_counts: &mut counts,
-            used: &mut used,
-            place_counts: &mut places,
-            frames: &mut frames,
-            disk: &mut disk,
-        },
+        &mut lent!(
+            &mut table,
+            &mut segments,
+            &mut lookers,
+            &mut counts,
+            &mut used,
+            &mut places,
+            &mut frames,
+            &mut disk
+        ),
         4,
         0,
         0,

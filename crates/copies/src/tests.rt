@@ -10,6 +10,34 @@ use std::test::Fail;
 use tables::entry::*;
 use tables::lent::Lent;
 
+// All memory, list by list.
+macro_rules! lent {
+    ($table:expr, $segments:expr, $lookers:expr, $counts:expr, $used:expr, $places:expr, $frames:expr, $disk:expr) => {
+        Lent {
+            table: $table,
+            segments: $segments,
+            lookers: $lookers,
+            frame_counts: $counts,
+            used: $used,
+            place_counts: $places,
+            frames: $frames,
+            disk: $disk,
+        }
+    };
+}
+
+// Memory of so many processes of one page each.
+macro_rules! memory {
+    ($limits:expr, $processes:expr, $lent:expr) => {
+        Memory {
+            limits: $limits,
+            processes: $processes,
+            pages: 1,
+            lent: $lent,
+        }
+    };
+}
+
 macro_rules! registers {
     () => {
         Registers { hand: Hand { at: 0 }, transfers: Transfers { reads: 0, writes: 0 }, lookaside: Lookaside { slots: [None; 16] } }
@@ -37,21 +65,20 @@ fn the_page_that_is_copied_goes_out(rt: HostRuntime) -> Result<(), Fail> {
     let mut frames = [7u8; 256];
     let mut disk = [0u8; 256];
     let (after, written) = store(
-        &mut Memory {
-            limits: limits,
-            processes: 2,
-            pages: 1,
-            lent: Lent {
-                table: &mut table,
-                segments: &mut [],
-                lookers: &mut [],
-                frame_counts: &mut counts,
-                used: &mut used,
-                place_counts: &mut places,
-                frames: &mut frames,
-                disk: &mut disk,
-            },
-        },
+        &mut memory!(
+            limits,
+            2,
+            lent!(
+                &mut table,
+                &mut [],
+                &mut [],
+                &mut counts,
+                &mut used,
+                &mut places,
+                &mut frames,
+                &mut disk
+            )
+        ),
         registers!(),
         Store {
             process: 1,
@@ -82,21 +109,20 @@ fn zeros_alone_and_full(rt: HostRuntime) -> Result<(), Fail> {
     let mut used = [0u16];
     let mut frames = [7u8; 256];
     let (after, first) = store(
-        &mut Memory {
-            limits: limits,
-            processes: 2,
-            pages: 1,
-            lent: Lent {
-                table: &mut table,
-                segments: &mut [],
-                lookers: &mut [],
-                frame_counts: &mut counts,
-                used: &mut used,
-                place_counts: &mut [],
-                frames: &mut frames,
-                disk: &mut [],
-            },
-        },
+        &mut memory!(
+            limits,
+            2,
+            lent!(
+                &mut table,
+                &mut [],
+                &mut [],
+                &mut counts,
+                &mut used,
+                &mut [],
+                &mut frames,
+                &mut []
+            )
+        ),
         registers!(),
         Store {
             process: 0,
@@ -108,21 +134,20 @@ fn zeros_alone_and_full(rt: HostRuntime) -> Result<(), Fail> {
     assert!(rt; first.is_some() && table[0] == code!(Target::Frame(0), false) && counts[0] == 1);
     assert!(rt; load(&frames, 0, 5) == 9 && load(&frames, 0, 0) == 0);
     let (after, full) = store(
-        &mut Memory {
-            limits: limits,
-            processes: 2,
-            pages: 1,
-            lent: Lent {
-                table: &mut table,
-                segments: &mut [],
-                lookers: &mut [],
-                frame_counts: &mut counts,
-                used: &mut used,
-                place_counts: &mut [],
-                frames: &mut frames,
-                disk: &mut [],
-            },
-        },
+        &mut memory!(
+            limits,
+            2,
+            lent!(
+                &mut table,
+                &mut [],
+                &mut [],
+                &mut counts,
+                &mut used,
+                &mut [],
+                &mut frames,
+                &mut []
+            )
+        ),
         after,
         Store {
             process: 1,
@@ -134,21 +159,20 @@ fn zeros_alone_and_full(rt: HostRuntime) -> Result<(), Fail> {
     assert!(rt; full.is_none() && table[1] == code!(Target::Zero, true) && counts[0] == 1);
     table[0] = code!(Target::Frame(0), true);
     let (_after, alone) = store(
-        &mut Memory {
-            limits: limits,
-            processes: 2,
-            pages: 1,
-            lent: Lent {
-                table: &mut table,
-                segments: &mut [],
-                lookers: &mut [],
-                frame_counts: &mut counts,
-                used: &mut used,
-                place_counts: &mut [],
-                frames: &mut frames,
-                disk: &mut [],
-            },
-        },
+        &mut memory!(
+            limits,
+            2,
+            lent!(
+                &mut table,
+                &mut [],
+                &mut [],
+                &mut counts,
+                &mut used,
+                &mut [],
+                &mut frames,
+                &mut []
+            )
+        ),
         after,
         Store {
             process: 0,

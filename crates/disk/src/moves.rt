@@ -1,4 +1,5 @@
-// Two locations change their names, with the bytes, counts and tables that go with them.
+// Two locations change their names, with the bytes, counts and tables that go with them. What is asked of lent memory is a clause of each function:
+// none needs all of it to fit.
 ghost use Rattle.std.specs.Prelude.{◌≡◌, ℕ, ◌+◌, ◌<◌, ◌++◌, map, length};
 ghost use Rattle.tables.specs.Cells.{Few, renamed};
 ghost use Rattle.tables.specs.Lent.{lists, shape};

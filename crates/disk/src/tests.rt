@@ -8,6 +8,34 @@ use std::test::Fail;
 use tables::entry::*;
 use tables::lent::Lent;
 
+// All memory, list by list.
+macro_rules! lent {
+    ($table:expr, $segments:expr, $lookers:expr, $counts:expr, $used:expr, $places:expr, $frames:expr, $disk:expr) => {
+        Lent {
+            table: $table,
+            segments: $segments,
+            lookers: $lookers,
+            frame_counts: $counts,
+            used: $used,
+            place_counts: $places,
+            frames: $frames,
+            disk: $disk,
+        }
+    };
+}
+
+// Memory of so many processes of one page each.
+macro_rules! memory {
+    ($limits:expr, $processes:expr, $lent:expr) => {
+        Memory {
+            limits: $limits,
+            processes: $processes,
+            pages: 1,
+            lent: $lent,
+        }
+    };
+}
+
 macro_rules! registers {
     () => {
         Registers { hand: Hand { at: 0 }, transfers: Transfers { reads: 0, writes: 0 }, lookaside: Lookaside { slots: [None; 16] } }
@@ -34,40 +62,38 @@ fn a_frame_is_found_or_not(rt: HostRuntime) -> Result<(), Fail> {
     let mut places = [1u16];
     let mut frames = [7u8; 256];
     let mut disk = [9u8; 256];
-    let (full, none) = Memory {
-        limits: limits,
-        processes: 2,
-        pages: 1,
-        lent: Lent {
-            table: &mut table,
-            segments: &mut [],
-            lookers: &mut [],
-            frame_counts: &mut counts,
-            used: &mut used,
-            place_counts: &mut places,
-            frames: &mut frames,
-            disk: &mut disk,
-        },
-    }
+    let (full, none) = memory!(
+        limits,
+        2,
+        lent!(
+            &mut table,
+            &mut [],
+            &mut [],
+            &mut counts,
+            &mut used,
+            &mut places,
+            &mut frames,
+            &mut disk
+        )
+    )
     .take_frame(registers!());
     assert!(rt; none.is_none() && full.hand.at == 0 && used[0] == 1);
     let mut one = [code!(Target::Frame(0)), 0];
     let mut free = [0u16];
-    let (after, some) = Memory {
-        limits: limits,
-        processes: 2,
-        pages: 1,
-        lent: Lent {
-            table: &mut one,
-            segments: &mut [],
-            lookers: &mut [],
-            frame_counts: &mut counts,
-            used: &mut used,
-            place_counts: &mut free,
-            frames: &mut frames,
-            disk: &mut disk,
-        },
-    }
+    let (after, some) = memory!(
+        limits,
+        2,
+        lent!(
+            &mut one,
+            &mut [],
+            &mut [],
+            &mut counts,
+            &mut used,
+            &mut free,
+            &mut frames,
+            &mut disk
+        )
+    )
     .take_frame(registers!());
     let Some(taken) = some else {
         return Err(Fail::new("no frame"));
@@ -104,21 +130,20 @@ fn a_page_comes_in_though_all_is_used(rt: HostRuntime) -> Result<(), Fail> {
     let mut places = [1u16];
     let mut frames = [7u8; 256];
     let mut disk = [9u8; 256];
-    let (after, taken) = Memory {
-        limits: limits,
-        processes: 3,
-        pages: 1,
-        lent: Lent {
-            table: &mut table,
-            segments: &mut segments,
-            lookers: &mut [],
-            frame_counts: &mut counts,
-            used: &mut used,
-            place_counts: &mut places,
-            frames: &mut frames,
-            disk: &mut disk,
-        },
-    }
+    let (after, taken) = memory!(
+        limits,
+        3,
+        lent!(
+            &mut table,
+            &mut segments,
+            &mut [],
+            &mut counts,
+            &mut used,
+            &mut places,
+            &mut frames,
+            &mut disk
+        )
+    )
     .bring_in(registers!(), 0);
     assert!(rt;
         taken.frame == 0

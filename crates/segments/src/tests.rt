@@ -12,6 +12,34 @@ use std::test::Fail;
 use tables::entry::*;
 use tables::lent::Lent;
 
+// All memory, list by list.
+macro_rules! lent {
+    ($table:expr, $segments:expr, $lookers:expr, $counts:expr, $used:expr, $places:expr, $frames:expr, $disk:expr) => {
+        Lent {
+            table: $table,
+            segments: $segments,
+            lookers: $lookers,
+            frame_counts: $counts,
+            used: $used,
+            place_counts: $places,
+            frames: $frames,
+            disk: $disk,
+        }
+    };
+}
+
+// Memory of so many processes of one page each.
+macro_rules! memory {
+    ($limits:expr, $processes:expr, $lent:expr) => {
+        Memory {
+            limits: $limits,
+            processes: $processes,
+            pages: 1,
+            lent: $lent,
+        }
+    };
+}
+
 macro_rules! registers {
     () => {
         Registers { hand: Hand { at: 0 }, transfers: Transfers { reads: 0, writes: 0 }, lookaside: Lookaside { slots: [None; 16] } }
@@ -39,21 +67,20 @@ fn a_segment_comes_and_goes(rt: HostRuntime) -> Result<(), Fail> {
     let mut used = [0u16];
     let mut frames = [7u8; 256];
     let (after, made) = make(
-        &mut Memory {
-            limits: limits,
-            processes: 2,
-            pages: 1,
-            lent: Lent {
-                table: &mut table,
-                segments: &mut segments,
-                lookers: &mut lookers,
-                frame_counts: &mut counts,
-                used: &mut used,
-                place_counts: &mut [],
-                frames: &mut frames,
-                disk: &mut [],
-            },
-        },
+        &mut memory!(
+            limits,
+            2,
+            lent!(
+                &mut table,
+                &mut segments,
+                &mut lookers,
+                &mut counts,
+                &mut used,
+                &mut [],
+                &mut frames,
+                &mut []
+            )
+        ),
         registers!(),
         0,
         0,
@@ -66,16 +93,16 @@ fn a_segment_comes_and_goes(rt: HostRuntime) -> Result<(), Fail> {
             && load(&frames, 0, 255) == 0
     );
     look(
-        &mut Lent {
-            table: &mut table,
-            segments: &mut [],
-            lookers: &mut lookers,
-            frame_counts: &mut [],
-            used: &mut [],
-            place_counts: &mut [],
-            frames: &mut [],
-            disk: &mut [],
-        },
+        &mut lent!(
+            &mut table,
+            &mut [],
+            &mut lookers,
+            &mut [],
+            &mut [],
+            &mut [],
+            &mut [],
+            &mut []
+        ),
         limits,
         1,
         1,
@@ -84,16 +111,16 @@ fn a_segment_comes_and_goes(rt: HostRuntime) -> Result<(), Fail> {
     );
     assert!(rt; table[1] == code!(Target::Segment(0)) && lookers[0] == 2);
     drop_page(
-        &mut Lent {
-            table: &mut table,
-            segments: &mut segments,
-            lookers: &mut lookers,
-            frame_counts: &mut counts,
-            used: &mut [],
-            place_counts: &mut [],
-            frames: &mut [],
-            disk: &mut [],
-        },
+        &mut lent!(
+            &mut table,
+            &mut segments,
+            &mut lookers,
+            &mut counts,
+            &mut [],
+            &mut [],
+            &mut [],
+            &mut []
+        ),
         limits,
         1,
         0,
@@ -101,37 +128,36 @@ fn a_segment_comes_and_goes(rt: HostRuntime) -> Result<(), Fail> {
     );
     assert!(rt; table[0] == 0 && lookers[0] == 1 && counts[0] == 1);
     let (_after, full) = make(
-        &mut Memory {
-            limits: limits,
-            processes: 2,
-            pages: 1,
-            lent: Lent {
-                table: &mut table,
-                segments: &mut segments,
-                lookers: &mut lookers,
-                frame_counts: &mut counts,
-                used: &mut used,
-                place_counts: &mut [],
-                frames: &mut frames,
-                disk: &mut [],
-            },
-        },
+        &mut memory!(
+            limits,
+            2,
+            lent!(
+                &mut table,
+                &mut segments,
+                &mut lookers,
+                &mut counts,
+                &mut used,
+                &mut [],
+                &mut frames,
+                &mut []
+            )
+        ),
         after,
         0,
         0,
     );
     assert!(rt; full.is_none() && table[0] == 0);
     drop_page(
-        &mut Lent {
-            table: &mut table,
-            segments: &mut segments,
-            lookers: &mut lookers,
-            frame_counts: &mut counts,
-            used: &mut [],
-            place_counts: &mut [],
-            frames: &mut [],
-            disk: &mut [],
-        },
+        &mut lent!(
+            &mut table,
+            &mut segments,
+            &mut lookers,
+            &mut counts,
+            &mut [],
+            &mut [],
+            &mut [],
+            &mut []
+        ),
         limits,
         1,
         1,
@@ -157,21 +183,20 @@ fn a_segment_on_the_disk_is_stored_to(rt: HostRuntime) -> Result<(), Fail> {
     let mut frames = [7u8; 256];
     let mut disk = [9u8; 256];
     let (after, reached) = store_to_segment(
-        &mut Memory {
-            limits: limits,
-            processes: 2,
-            pages: 1,
-            lent: Lent {
-                table: &mut table,
-                segments: &mut segments,
-                lookers: &mut [],
-                frame_counts: &mut counts,
-                used: &mut used,
-                place_counts: &mut places,
-                frames: &mut frames,
-                disk: &mut disk,
-            },
-        },
+        &mut memory!(
+            limits,
+            2,
+            lent!(
+                &mut table,
+                &mut segments,
+                &mut [],
+                &mut counts,
+                &mut used,
+                &mut places,
+                &mut frames,
+                &mut disk
+            )
+        ),
         registers!(),
         Store {
             process: 0,

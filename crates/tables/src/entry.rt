@@ -51,7 +51,7 @@ impl Entry {
         }
     }
 
-    // Ten times the index, and twice the kind, and the mark.
+    // Ten times the index, and twice the kind, and the mark. No `From`: an index may be too large for a number, and a number is read by the limits.
     pub fn encode(self) -> u16
         requires { index_of self.target < 1024 }
         ensures { result ≡ encoded self }
@@ -63,8 +63,7 @@ impl Entry {
             Target::Place(place) => (3, place),
             Target::Segment(segment) => (4, segment),
         };
-        let mark = if self.copy { 1 } else { 0 };
-        (index * 10 + kind * 2 + mark) as u16
+        (index * 10 + kind * 2 + usize::from(self.copy)) as u16
     }
 
     // What is no code, or names what is not there, reads as absent.

@@ -17,7 +17,7 @@ pub struct Lent<'a> {
 }
 
 // What a walk reads: the page table and the segment table, and the counts of frames and places. Each but the page table is as long
-// as the limits say.
+// as the limits say: a walk asks only that the row of its process is there.
 #[derive(Clone, Copy)]
 pub struct Tables<'a> {
     pub limits: Limits,

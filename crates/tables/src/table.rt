@@ -1,5 +1,5 @@
 // The lent page table: pages entries for each process, one row after the other. Each contract is for every number n of rows that one may
-// want to see of it.
+// want to see of it. The table and how many pages a row has are no struct: a table is lent for one line, and a struct would be made for each.
 ghost use Rattle.std.specs.Prelude.{◌≡◌, ℕ, ◌+◌, ◌*◌, ◌<◌, ◌≤◌, ◌≢◌, map, length};
 ghost use Rattle.tables.specs.declared.entry.Limits.{Limits};
 ghost use Rattle.tables.specs.Cells.{cell, decoded, Few, held_of, held_swapped, index_of, renamed, Within};
