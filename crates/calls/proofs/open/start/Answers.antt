@@ -1,6 +1,5 @@
-use Rattle.std.proofs.Common.{◌≡◌, ℕ, zero, suc, ◌-◌, ◌≤◌, true, false, ◌∷◌, take, replicate, refl, ap, ◌∙◌, arith}
+use Rattle.std.proofs.Common.{◌≡◌, ℕ, zero, suc, ◌-◌, ◌≤◌, true, false, ◌∷◌, take, replicate, ap, ◌∙◌, arith}
 use Rattle.std.proofs.lemmas.List.{take-replicate}
-use Rattle.disk.specs.declared.registers.Transfers.{Transfers}
 use Rattle.calls.proofs.open.start.Goals as goal
 
 -- process 0 is there, and as many others are not as the machine has
@@ -9,13 +8,5 @@ first_alone zero h k = absurd (omega arith)
 first_alone (suc n) h k =
     ap (λ bs. true ∷ bs) (take-replicate n 15 false (omega arith) ∙ ap (λ j. replicate j false) (let e : n ≡ suc n - 1 = omega arith in e))
 
-pub returns : goal.returns
-returns c =
-    record {
-      sizes = refl;
-      alive = first_alone c.args.sizes.processes (omega (arith, c.requires)) (omega (arith, c.requires));
-      hand = c.new.ensures;
-      reads = ap (λ (t : Transfers). t.reads) c.new-2.ensures;
-      writes = ap (λ (t : Transfers). t.writes) c.new-2.ensures;
-      slots = c.new-3.ensures;
-    }
+pub returns-clause-alive : goal.returns-clause-alive
+returns-clause-alive c = first_alone c.args.sizes.processes (omega (arith, c.requires)) (omega (arith, c.requires))

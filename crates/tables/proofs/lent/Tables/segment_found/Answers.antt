@@ -4,11 +4,8 @@ use Rattle.tables.specs.Cells.{Cell, none, decoded}
 use Rattle.tables.specs.State.{walked_segment}
 use Rattle.tables.proofs.lent.Tables.segment_found.Goals as goal
 
-pub returns : goal.returns
-returns c =
-    record {
-      value =
-          c.at_location.ensures.value
-          ∙ ap (λ (e : Cell). walked_segment e.holds) (c.decode-entry.ensures.value ∙ sym (get_or-map (decoded c.args.self.now.limits) c.args.self.now.segments.now c.args.segment 0 none (omega (arith, c.args.self.now.segments_length))));
-      within = c.at_location.ensures.within;
-    }
+pub returns-clause-value : goal.returns-clause-value
+returns-clause-value c =
+    let t = c.args.self.now in
+    c.at_location.ensures.value
+    ∙ ap (λ (e : Cell). walked_segment e.holds) (c.decode-entry.ensures.value ∙ sym (get_or-map (decoded t.limits) t.segments.now c.args.segment 0 none (omega (arith, t.segments_length))))
