@@ -15,7 +15,6 @@ use disk::memory::Memory;
 use requests::answer::{Answer, Refusal};
 use requests::request::Call;
 use std::mem;
-use tables::entry::Limits;
 use tables::lent::Lent;
 
 // Slices of no length.
@@ -52,11 +51,7 @@ fn serve_lent(manager: Manager, lent: &mut Lent<'_>, call: Call) -> (Manager, An
 {
     let sizes = manager.sizes;
     let mut memory = Memory {
-        limits: Limits {
-            frames: sizes.frames,
-            places: sizes.places,
-            segments: sizes.segments,
-        },
+        limits: manager.limits(),
         processes: sizes.processes,
         pages: sizes.pages,
         lent: mem::replace(lent, nothing()),

@@ -2,9 +2,11 @@
 ghost use Rattle.std.specs.Prelude.{◌≡◌, ◌<◌, true, false, ◌&&◌, take, IfSome, nat_lt, slice_index_or, slice_set};
 ghost use Rattle.requests.specs.Ranges.{InRange, ranged};
 ghost use Rattle.calls.specs.Machine.{lowest_absent};
+ghost use Rattle.calls.specs.Memory.{limits_of};
 
 use disk::registers::Registers;
 use requests::sizes::Sizes;
+use tables::entry::Limits;
 
 #[derive(Clone, Copy)]
 pub struct Manager {
@@ -14,6 +16,17 @@ pub struct Manager {
 }
 
 impl Manager {
+    // How many frames, places and segments an entry may name.
+    pub fn limits(self) -> Limits
+        ensures { result ≡ limits_of self.sizes }
+    {
+        Limits {
+            frames: self.sizes.frames,
+            places: self.sizes.places,
+            segments: self.sizes.segments,
+        }
+    }
+
     // Whether a process is there.
     pub(crate) fn is_alive(self, process: usize) -> bool
         requires { InRange (ranged self.sizes) }

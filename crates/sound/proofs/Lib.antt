@@ -1,3 +1,2 @@
 mod Counting
 mod Rooms
-mod SizesOf

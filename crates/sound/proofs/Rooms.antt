@@ -1,6 +1,7 @@
--- Memory that is not refused is long enough.
+-- Memory that is not refused is long enough, and the part of it that the machine has is exactly as long as the sizes say.
 use Rattle.std.proofs.Common.{◌≡◌, Bool, true, false, cond, is_some, Some, None, Option, refl}
 use Rattle.std.proofs.lemmas.Bool.{and_parts, leb-true, true≢false}
+use Rattle.std.proofs.lemmas.List.{length-take-le}
 use Rattle.requests.specs.Ranges.{ranged, sizes_refusal}
 use Rattle.requests.specs.Refusals.{either_refusal}
 use Rattle.requests.specs.declared.answer.Part.TheVariants as part
@@ -9,7 +10,7 @@ use Rattle.requests.specs.declared.answer.Refusal.TheVariants.{Lent as TooShort}
 use Rattle.requests.specs.declared.sizes.Sizes.{Sizes}
 use Rattle.requests.proofs.Ranging.{in_range}
 use Rattle.tables.specs.State.{Lent}
-use Rattle.calls.specs.Entry.{Roomy, entry_refusal, lent_refusal, tables_fit}
+use Rattle.calls.specs.Entry.{ExactLent, Roomy, cut_lent, entry_refusal, lent_refusal, tables_fit}
 
 none_some : (o : Option Refusal) → is_some o ≡ false → o ≡ None
 none_some None e = refl
@@ -45,4 +46,17 @@ roomy z m e =
       place_counts = leb-true _ _ u.1;
       frames = leb-true _ _ frames.0;
       disk = leb-true _ _ disk.0;
+    }
+
+pub exact : (z : Sizes) (m : Lent) → Roomy z m → ExactLent z (cut_lent z m)
+exact z m r =
+    record {
+      table = length-take-le _ _ r.table;
+      segments = length-take-le _ _ r.segments;
+      lookers = length-take-le _ _ r.lookers;
+      frame_counts = length-take-le _ _ r.frame_counts;
+      used = length-take-le _ _ r.used;
+      place_counts = length-take-le _ _ r.place_counts;
+      frames = length-take-le _ _ r.frames;
+      disk = length-take-le _ _ r.disk;
     }

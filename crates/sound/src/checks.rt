@@ -1,22 +1,18 @@
 // Each check finds what is wrong with one thing, or nothing.
-ghost use Rattle.std.specs.Prelude.{◌≡◌, ◌+◌, ◌*◌, ◌<◌, ◌||◌, None};
+ghost use Rattle.std.specs.Prelude.{◌≡◌};
 ghost use Rattle.requests.specs.Meaning.{seen_sizes};
 ghost use Rattle.requests.specs.declared.sizes.Sizes.{Sizes};
 ghost use Rattle.tables.specs.Cells.{held_of, Within};
-ghost use Rattle.calls.specs.Machine.{living};
 ghost use Rattle.calls.specs.Memory.{limits_of};
-ghost use Rattle.sound.specs.Findings.{finds, how_many, is_nothing, lying_finding, own_alone, page_formed, place_finding, segment_formed, slot_right, tested};
-ghost use Rattle.sound.specs.Picture.{counts_of, pictured};
-ghost use Rattle.sound.specs.Sound.{segment_entry};
+ghost use Rattle.sound.specs.Findings.{page_formed, segment_formed, tested};
 
-use crate::finding::{Check, Finding};
-use crate::snapshot::Snapshot;
+use crate::finding::Finding;
 use tables::entry::{Entry, Target};
 
 fn tested(right: bool, finding: Finding) -> Option<Finding>
     ensures { result ≡ tested right finding }
 {
-    if right { None } else { Some(finding) }
+    (!right).then_some(finding)
 }
 
 // An absent page and a segment have no mark, and a page of zeros has it.
@@ -34,8 +30,8 @@ fn is_page_entry(entry: Entry) -> bool
 fn is_segment_entry(entry: Entry) -> bool
     ensures { (z : Sizes) → Within (limits_of z) entry.target → result ≡ segment_formed (seen_sizes z) (held_of z.frames entry.target) entry.copy }
 {
-    match entry.target {
-        Target::Absent | Target::Frame(_) | Target::Place(_) => !entry.copy,
-        Target::Zero | Target::Segment(_) => false,
-    }
+    matches!(
+        entry.target,
+        Target::Absent | Target::Frame(_) | Target::Place(_)
+    ) && !entry.copy
 }

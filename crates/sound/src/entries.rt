@@ -6,39 +6,29 @@ ghost use Rattle.calls.specs.Memory.{limits_of};
 ghost use Rattle.sound.specs.Picture.{rows_of, segments_of};
 
 use crate::snapshot::Snapshot;
-use tables::entry::{Entry, Limits};
+use tables::entry::Entry;
 use tables::table::read;
 
 impl Snapshot<'_> {
-    pub(crate) fn limits(self) -> Limits
-        ensures { result ≡ limits_of self.entry.manager.sizes }
-    {
-        Limits {
-            frames: self.manager.sizes.frames,
-            places: self.manager.sizes.places,
-            segments: self.manager.sizes.segments,
-        }
-    }
-
     // The entry of a page of a process.
-    pub(crate) fn entry_at(self, process: usize, page: usize) -> Entry
-        requires process { process < self.manager.sizes.processes }
-        requires page { page < self.manager.sizes.pages }
-        ensures value { cell self.entry.manager.sizes.frames result ≡ entry_of (rows_of self.entry) process page }
-        ensures within { Within (limits_of self.entry.manager.sizes) result.target }
+    pub(crate) fn entry_at(&self, process: usize, page: usize) -> Entry
+        requires process { process < self.now.manager.sizes.processes }
+        requires page { page < self.now.manager.sizes.pages }
+        ensures value { cell self.now.manager.sizes.frames result ≡ entry_of (rows_of self.now) process page }
+        ensures within { Within (limits_of self.now.manager.sizes) result.target }
         ensures small { index_of result.target < 1024 }
     {
         let pages = self.manager.sizes.pages;
-        read(self.table, self.limits(), pages, process, page)
+        read(self.table, self.manager.limits(), pages, process, page)
     }
 
     // Where a segment lies, by the segment table.
-    pub(crate) fn segment_entry(self, segment: usize) -> Entry
-        requires { segment < self.manager.sizes.segments }
-        ensures value { cell self.entry.manager.sizes.frames result ≡ slice_index_or (segments_of self.entry) segment none }
-        ensures within { Within (limits_of self.entry.manager.sizes) result.target }
+    pub(crate) fn segment_entry(&self, segment: usize) -> Entry
+        requires { segment < self.now.manager.sizes.segments }
+        ensures value { cell self.now.manager.sizes.frames result ≡ slice_index_or (segments_of self.now) segment none }
+        ensures within { Within (limits_of self.now.manager.sizes) result.target }
         ensures small { index_of result.target < 1024 }
     {
-        Entry::decode(self.segments[segment], self.limits())
+        Entry::decode(self.segments[segment], self.manager.limits())
     }
 }

@@ -1,5 +1,5 @@
 // What is wrong with a state, by where it is. What is there instead can be read in the state.
-#[derive(Clone, Copy)]
+#[derive(Clone, Copy, PartialEq, Eq, Debug)]
 pub enum Finding {
     // the count of a frame or place is not the number of entries and segments that name it; places come after the frames
     Count { location: usize },

@@ -1,7 +1,7 @@
 // How many entries name a frame or place, or look at a segment.
-ghost use Rattle.std.specs.Prelude.{◌≡◌, ◌<◌, ◌≤◌};
-ghost use Rattle.frames.specs.Cut.{row};
-ghost use Rattle.tables.specs.Cells.{held_of, index_of};
+ghost use Rattle.std.specs.Prelude.{◌≡◌, ◌≤◌, ◌==◌, length};
+ghost use Rattle.tables.specs.Cells.{decoded, Few};
+ghost use Rattle.tables.specs.Rows.{cells};
 ghost use Rattle.disk.specs.Follows.{named};
 ghost use Rattle.simulation.specs.Over.{over, over_row};
 ghost use Rattle.sound.specs.Picture.{pictured, rows_of, segments_of};
@@ -9,7 +9,7 @@ ghost use Rattle.sound.specs.Seek.{is_sought};
 ghost use Rattle.sound.specs.Sound.{looks, state};
 
 use crate::snapshot::Snapshot;
-use tables::entry::Target;
+use tables::entry::{Entry, Limits, Target};
 
 // Frames come first among the locations, and then places.
 #[derive(Clone, Copy)]
@@ -19,71 +19,62 @@ pub(crate) enum Sought {
 }
 
 impl Sought {
-    // 1 if this is what an entry names, else 0.
-    fn count(self, target: Target, frames: usize) -> usize
-        requires small { frames ≤ 512 }
-        requires within { index_of target < 1024 }
-        ensures value { result ≡ is_sought self (held_of frames target) }
-        ensures few { result ≤ 1 }
+    // Whether this is what the entry of a code names.
+    fn is_named_by(self, code: u16, limits: Limits) -> bool
+        requires { Few limits }
+        ensures { result ≡ (is_sought self (decoded limits code).holds == 1) }
     {
-        match (self, target) {
-            (Sought::Location(location), Target::Frame(frame)) if frame == location => 1,
-            (Sought::Location(location), Target::Place(place)) if frames + place == location => 1,
-            (Sought::Segment(segment), Target::Segment(looked_at)) if looked_at == segment => 1,
-            _ => 0,
+        match (self, Entry::decode(code, limits).target) {
+            (Sought::Location(location), Target::Frame(frame)) => frame == location,
+            (Sought::Location(location), Target::Place(place)) => limits.frames + place == location,
+            (Sought::Segment(segment), Target::Segment(looked_at)) => looked_at == segment,
+            _ => false,
         }
+    }
+
+    // How many entries of a table name this.
+    fn count_in(self, table: &[u16], limits: Limits) -> usize
+        requires { Few limits }
+        ensures value { result ≡ over_row (is_sought self) (cells limits table.now) }
+        ensures few { result ≤ length table.now }
+    {
+        table
+            .iter()
+            .filter(|code| self.is_named_by(**code, limits))
+            .count()
     }
 }
 
 impl Snapshot<'_> {
-    fn count_in_row(self, process: usize, sought: Sought) -> usize
-        requires { process < self.manager.sizes.processes }
-        ensures value { result ≡ over_row (is_sought sought) (row (rows_of self.entry) process) }
-        ensures few { result ≤ 64 }
-    {
-        let mut count = 0;
-        for page in 0..self.manager.sizes.pages {
-            let entry = self.entry_at(process, page);
-            count += sought.count(entry.target, self.manager.sizes.frames);
-        }
-        count
-    }
-
     // In the page tables of all processes.
-    pub(crate) fn count_in_pages(self, sought: Sought) -> usize
-        ensures value { result ≡ over (is_sought sought) (rows_of self.entry) }
+    #[tactic(auto, using(crate::proofs::Counting::over_rows))]
+    pub(crate) fn count_in_pages(&self, sought: Sought) -> usize
+        ensures value { result ≡ over (is_sought sought) (rows_of self.now) }
         ensures few { result ≤ 1024 }
     {
-        let mut count = 0;
-        for process in 0..self.manager.sizes.processes {
-            count += self.count_in_row(process, sought);
-        }
-        count
+        sought.count_in(self.table, self.manager.limits())
     }
 
-    fn count_in_segments(self, sought: Sought) -> usize
-        ensures value { result ≡ over_row (is_sought sought) (segments_of self.entry) }
+    fn count_in_segments(&self, sought: Sought) -> usize
+        ensures value { result ≡ over_row (is_sought sought) (segments_of self.now) }
         ensures few { result ≤ 16 }
     {
-        let mut count = 0;
-        for segment in 0..self.manager.sizes.segments {
-            let entry = self.segment_entry(segment);
-            count += sought.count(entry.target, self.manager.sizes.frames);
-        }
-        count
+        sought.count_in(self.segments, self.manager.limits())
     }
 
     // How many entries and segments name a frame or place.
-    pub(crate) fn names_of(self, location: usize) -> usize
-        ensures { result ≡ named (state (pictured self.entry)) location }
+    #[tactic(auto, unfolding(tables::specs::State::view))]
+    pub(crate) fn names_of(&self, location: usize) -> usize
+        ensures { result ≡ named (state (pictured self.now)) location }
     {
         let sought = Sought::Location(location);
         self.count_in_pages(sought) + self.count_in_segments(sought)
     }
 
     // How many entries look at a segment.
-    pub(crate) fn looks_of(self, segment: usize) -> usize
-        ensures { result ≡ looks (pictured self.entry) segment }
+    #[tactic(auto, unfolding(tables::specs::State::view))]
+    pub(crate) fn looks_of(&self, segment: usize) -> usize
+        ensures { result ≡ looks (pictured self.now) segment }
     {
         self.count_in_pages(Sought::Segment(segment))
     }

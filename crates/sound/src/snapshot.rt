@@ -1,8 +1,11 @@
 // A manager's state to look at: its record, and exactly the memory that its sizes say.
-ghost use Rattle.std.specs.Prelude.{◌≡◌, ◌*◌, ◌≤◌, length};
+ghost use Rattle.requests.specs.Ranges.{InRange, ranged};
+ghost use Rattle.disk.specs.Moves.{lent};
+ghost use Rattle.calls.specs.Entry.{ExactLent};
 
 use calls::manager::Manager;
 
+// What a walk reads is not kept apart, as `tables::lent::Tables`: that would hold the sizes a second time.
 #[derive(Clone, Copy)]
 pub struct Snapshot<'a> {
     pub manager: Manager,
@@ -14,20 +17,6 @@ pub struct Snapshot<'a> {
     pub place_counts: &'a [u16],
     pub frames: &'a [u8],
     pub disk: &'a [u8],
-    ghost some_processes: { 1 ≤ manager.sizes.processes },
-    ghost few_processes: { manager.sizes.processes ≤ 16 },
-    ghost some_pages: { 1 ≤ manager.sizes.pages },
-    ghost few_pages: { manager.sizes.pages ≤ 64 },
-    ghost few_segments: { manager.sizes.segments ≤ 16 },
-    ghost some_frames: { 1 ≤ manager.sizes.frames },
-    ghost few_frames: { manager.sizes.frames ≤ 512 },
-    ghost few_places: { manager.sizes.places ≤ 512 },
-    ghost table_length: { length table.now ≡ manager.sizes.processes * manager.sizes.pages },
-    ghost segments_length: { length segments.now ≡ manager.sizes.segments },
-    ghost lookers_length: { length lookers.now ≡ manager.sizes.segments },
-    ghost frame_counts_length: { length frame_counts.now ≡ manager.sizes.frames },
-    ghost used_length: { length used.now ≡ manager.sizes.frames },
-    ghost place_counts_length: { length place_counts.now ≡ manager.sizes.places },
-    ghost frames_length: { length frames.now ≡ manager.sizes.frames * 256 },
-    ghost disk_length: { length disk.now ≡ manager.sizes.places * 256 },
+    ghost range: { InRange (ranged manager.sizes) },
+    ghost exact: { ExactLent manager.sizes (lent table.now segments.now lookers.now frame_counts.now used.now place_counts.now frames.now disk.now) },
 }
