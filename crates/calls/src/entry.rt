@@ -62,8 +62,8 @@ fn serve_lent(manager: Manager, lent: &mut Lent<'_>, call: Call) -> (Manager, An
     served
 }
 
-// The same on slices, which the entry cuts off longer ones. Each is a parameter of its own: the check does not follow a part of a slice into a
-// struct.
+// Answers a call on slices that the entry cuts off longer ones. Each is a parameter of its own: the check does not follow a part of a slice that is
+// lent to be written into a struct.
 fn serve_cut(
     manager: Manager,
     table: &mut [u16],
@@ -146,8 +146,6 @@ pub fn call_by_numbers(
     ensures same_frames { lent.new.frames.ghost_name ≡ lent.old.frames.ghost_name }
     ensures same_disk { lent.new.disk.ghost_name ≡ lent.old.disk.ghost_name }
 {
-    match Call::from_numbers(kind, process, page, third, fourth) {
-        Some(request) => call(manager, lent, request),
-        None => Err(Refusal::Kind(0)),
-    }
+    let request = Call::from_numbers(kind, process, page, third, fourth).ok_or(Refusal::Kind(0))?;
+    call(manager, lent, request)
 }

@@ -76,7 +76,7 @@ pub(crate) fn fork(manager: Manager, memory: &mut Memory<'_>, process: usize) ->
     (manager, Answer::Done(child as u64))
 }
 
-// Drops the pages of a process, one after the other. The row above with another step: a step as a parameter would need its law as a clause, which
+// Drops the pages of a process, one after the other. It is `raise_row` with another step: a step as a parameter would need its law as a clause, which
 // is longer than the loop.
 fn drop_row(memory: &mut Memory<'_>, process: usize)
     requires process_within { process < memory.old.processes }

@@ -27,9 +27,8 @@ fn load_here(
     ensures fixed { fixed memory.new ≡ fixed memory.old }
     ensures value { (looks : ℕ) → ◌≡◌ {A = Machine × fold.Answer} (machine_of result.0 memory.new, answered result.1) (load_reached (machine_of manager memory.old) slot.process slot.page offset slot.free ((machine_of manager memory.old).whole, record { frame = slot.frame; looks = looks })) }
 {
-    memory.mark(slot.frame);
-    let byte = memory.load(slot.frame, offset);
-    (manager.remember(slot), Answer::Done(u64::from(byte)))
+    let (manager, answer) = load_hit(manager, memory, slot, offset);
+    (manager.remember(slot), answer)
 }
 
 // Loads by the page table, the page coming in first where it lies on the disk.

@@ -21,8 +21,7 @@ fn counts(manager: Manager) -> Answer
     Answer::Done(u64::from(transfers.reads) * 65536 + u64::from(transfers.writes))
 }
 
-// That the record fits its memory is a clause of each call and no field of a type: the record goes by value through the core.
-// That the record fits its memory is a clause of each call and no field of a type: the record goes by value through the core.
+// Answers each kind of call. That the record fits its memory is a clause of each call and no field of a type.
 pub(crate) fn serve(manager: Manager, memory: &mut Memory<'_>, call: Call) -> (Manager, Answer)
     requires { Fits manager.sizes memory.old }
     ensures { ServesAsked manager memory.old (asked call) result memory.new }

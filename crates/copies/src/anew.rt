@@ -71,8 +71,8 @@ pub(crate) fn store_anew(
 {
     let transfers = fill(memory, registers.transfers, store, target, frame);
     Registers {
-        hand: registers.hand,
         transfers,
         lookaside: memory.purged(registers.lookaside),
+        ..registers
     }
 }

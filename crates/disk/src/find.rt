@@ -64,6 +64,7 @@ impl Memory<'_> {
     fn send_out(&mut self, registers: Registers, place: usize) -> (Registers, Taken)
         requires { place < self.old.limits.places }
         ensures fixed { fixed self.new ≡ fixed self.old }
+        ensures frames { self.new.lent.frames.now ≡ self.old.lent.frames.now }
         ensures value { ◌≡◌ {A = Whole × Taken} (whole_of result.0 self.new, result.1) (sent_out turn self.old.limits.frames place (whole_of registers self.old)) }
         ensures within { result.1.frame < self.old.limits.frames }
     {
@@ -96,15 +97,16 @@ impl Memory<'_> {
         let limits = self.limits;
         move_in(&mut self.lent, limits, frame, place);
         Registers {
-            hand: registers.hand,
             transfers: registers.transfers.read(),
             lookaside: self.purged(registers.lookaside),
+            ..registers
         }
     }
 
     // A frame for whoever needs one: the lowest that is free; else, if a place is free, the one that the hand chooses, once its page is out.
     pub fn take_frame(&mut self, registers: Registers) -> (Registers, Option<Taken>)
         ensures fixed { fixed self.new ≡ fixed self.old }
+        ensures frames { self.new.lent.frames.now ≡ self.old.lent.frames.now }
         ensures value { ◌≡◌ {A = Whole × Option Taken} (whole_of result.0 self.new, result.1) (take_frame turn self.old.limits.frames (whole_of registers self.old)) }
         ensures within { IfSome result.1 (λ t. t.frame < self.old.limits.frames) }
     {

@@ -4,7 +4,7 @@ ghost use Rattle.std.specs.Prelude.{◌≡◌, ◌*◌, ◌<◌, ◌≤◌, leng
 use tables::entry::Limits;
 use tables::lent::Lent;
 
-// Nothing is said of the counts of segments: only the calls that change them ask how many there are.
+// Nothing is said of how many lookers there are: only the calls that change them ask it, and a field would ask it of all.
 #[derive(Drop)]
 pub struct Memory<'a> {
     pub limits: Limits,

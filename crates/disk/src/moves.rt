@@ -44,7 +44,8 @@ fn relocate(lent: &mut Lent<'_>, limits: Limits, frame: usize, place: usize)
     swap_counts(lent.frame_counts, lent.place_counts, frame, place);
 }
 
-// A page goes out, from its frame to a place that is free.
+// A page goes out, from its frame to a place that is free. The three moves are three functions: one with the step as a parameter would need the step's
+// law as a clause, which is longer than they are.
 pub fn move_out(lent: &mut Lent<'_>, limits: Limits, frame: usize, place: usize)
     requires frame_within { frame < limits.frames }
     requires place_within { place < limits.places }
@@ -52,6 +53,7 @@ pub fn move_out(lent: &mut Lent<'_>, limits: Limits, frame: usize, place: usize)
     requires located { Located limits lent.old }
     ensures kept { shape lent.new ≡ shape lent.old }
     ensures moved { (pages processes : ℕ) → view limits pages processes (lists lent.new) ≡ gone_out frame (limits.frames + place) (view limits pages processes (lists lent.old)) }
+    ensures frames { lent.new.frames.now ≡ lent.old.frames.now }
 {
     let frames = &mut *lent.frames;
     let disk = &mut *lent.disk;
@@ -67,6 +69,7 @@ pub fn move_in(lent: &mut Lent<'_>, limits: Limits, frame: usize, place: usize)
     requires located { Located limits lent.old }
     ensures kept { shape lent.new ≡ shape lent.old }
     ensures moved { (pages processes : ℕ) → view limits pages processes (lists lent.new) ≡ come_in frame (limits.frames + place) (view limits pages processes (lists lent.old)) }
+    ensures disk { lent.new.disk.now ≡ lent.old.disk.now }
 {
     let frames = &mut *lent.frames;
     let disk = &mut *lent.disk;

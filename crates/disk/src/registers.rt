@@ -28,7 +28,7 @@ impl Transfers {
     {
         Transfers {
             reads: self.reads.saturating_add(1),
-            writes: self.writes,
+            ..self
         }
     }
 
@@ -37,8 +37,8 @@ impl Transfers {
         ensures { result ≡ record { reads = self.reads; writes = counted self.writes } }
     {
         Transfers {
-            reads: self.reads,
             writes: self.writes.saturating_add(1),
+            ..self
         }
     }
 }

@@ -16,7 +16,11 @@ impl Slot {
         requires { LiesWithin limits walked.lies }
         ensures { result ≡ answered_so limits.frames self (found limits.frames walked) }
     {
-        walked.lies == Lies::Frame(self.frame) && walked.free == self.free
+        walked
+            == Found {
+                lies: Lies::Frame(self.frame),
+                free: self.free,
+            }
     }
 
     // Whether a walk answers as the slot says.
@@ -36,13 +40,9 @@ fn keep(slot: Option<Slot>, tables: &Tables<'_>) -> Option<Slot>
     requires { length tables.now.table.now ≡ tables.now.processes * tables.now.pages }
     ensures { result ≡ kept_slot (rows_of tables.now) (segments_of tables.now) (counts_of tables.now) tables.now.limits.frames slot }
 {
-    // `filter` was tried: what a closure answers that reads tables is not found by the check.
+    // With `filter` the proof didn't close: the check learns nothing of a closure that reads tables.
     let slot = slot?;
-    if slot.is_true(tables) {
-        Some(slot)
-    } else {
-        None
-    }
+    slot.is_true(tables).then_some(slot)
 }
 
 impl Lookaside {

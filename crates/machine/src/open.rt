@@ -12,7 +12,8 @@ use requests::sizes::Sizes;
 use std::alloc::Global;
 use tables::lent::Lent;
 
-// Opens a manager over slices. Each is a parameter of its own: the check does not follow a vector's slice into a struct.
+// Opens a manager over slices. Each is a parameter of its own: the check does not follow a vector's slice that is lent to be written into a
+// struct.
 fn open_slices(
     sizes: Sizes,
     table: &mut [u16],

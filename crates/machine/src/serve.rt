@@ -11,7 +11,8 @@ use requests::answer::{Answer, Refusal};
 use requests::request::Call;
 use tables::lent::Lent;
 
-// Answers a call on slices. Each is a parameter of its own: the check does not follow a vector's slice into a struct.
+// Answers a call on slices. Each is a parameter of its own: the check does not follow a vector's slice that is lent to be written into a
+// struct.
 fn call_slices(
     manager: &mut Manager,
     table: &mut [u16],

@@ -1,7 +1,8 @@
 -- How a process's pages look after a write, and how a count over them goes on.
-use Rattle.std.proofs.Common.{◌≡◌, ℕ, zero, suc, Bool, true, false, cond, eqb, filter, [], ◌∷◌, replicate, refl, ◌+◌, ◌<◌, ◌≤◌, List, map, length, get_or, vec_items, vec_len, sym, ap, ◌∙◌, arith}
+use Rattle.std.proofs.Common.{◌≡◌, ℕ, zero, suc, Bool, true, false, cond, eqb, filter, [], ◌∷◌, replicate, refl, ◌+◌, ◌<◌, ◌≤◌, List, map, length, get_or, set, vec_items, vec_len, Vec, sym, ap, ◌∙◌, arith}
 use Rattle.std.proofs.lemmas.List.{map-set, length-map, get_or-map, get_or_past}
 use Rattle.std.specs.Vec.{with_item}
+use Rattle.std.specs.declared.alloc.Global.{Global}
 use Rattle.fold.specs.Fold as fold
 use Rattle.fold.specs.Fold.{over_pages, is_own, is_seen}
 use Rattle.private.specs.SeePage.{see_page, see_process, put_in, matching}
@@ -17,6 +18,10 @@ use Rattle.private.specs.declared.process.Process.{Process}
 pub put_here : (q : Process) (i : ℕ) (x : Page) → see_process (record { alive = q.alive; pages = with_item q.pages i x }) ≡ put_in (see_process q) i (see_page x)
 put_here q i x =
     ap (λ (ps : List fold.Page). record { alive = q.alive; pages = ps }) (map-set see_page (vec_items q.pages) i x)
+
+pub put_is : (q : Process) (v : Vec Page Global) (i : ℕ) (x : Page) → vec_items v ≡ set (vec_items q.pages) i x → see_process (record { alive = q.alive; pages = v }) ≡ put_in (see_process q) i (see_page x)
+put_is q v i x e =
+    ap (λ (ps : List fold.Page). record { alive = q.alive; pages = ps }) (ap (map see_page) e ∙ map-set see_page (vec_items q.pages) i x)
 
 pub page_is : (q : Process) (i : ℕ) (x : Page) → i < vec_len q.pages → x ≡ get_or (vec_items q.pages) i x → get_or (see_process q).pages i fold.absent ≡ see_page x
 page_is q i x h e =

@@ -57,6 +57,18 @@ put_process_past m p q h =
     let past : length (map see_process (vec_items m.processes)) ≤ p = rw length-map (omega (arith, m.processes.ok.0)) in
     ap (λ (ps : List fold.Process). record { processes = ps; segments = (see m).segments; next = m.next }) (sym (set_past _ p q past))
 
+-- process p put into processes v, and segment s into segments v
+pub put_process_is : (m : Memory) (v : Vec Process Global) (p : ℕ) (q : Process) → vec_items v ≡ set (vec_items m.processes) p q → see (record { heap = m.heap; processes = v; segments = m.segments; next = m.next }) ≡ with_process (see m) p (see_process q)
+unfolding with_process
+put_process_is m v p q e =
+    ap (λ (ps : List fold.Process). record { processes = ps; segments = (see m).segments; next = m.next })
+    (ap (map see_process) e ∙ map-set see_process (vec_items m.processes) p q)
+
+pub put_segment_is : (m : Memory) (v : Vec (Vec ℕ Global) Global) (s : ℕ) (x : Vec ℕ Global) → vec_items v ≡ set (vec_items m.segments) s x → see (record { heap = m.heap; processes = m.processes; segments = v; next = m.next }) ≡ with_segment (see m) s (vec_items x)
+put_segment_is m v s x e =
+    ap (λ (ss : List (List ℕ)). record { processes = (see m).processes; segments = ss; next = m.next })
+    (ap (map vec_items) e ∙ map-set vec_items (vec_items m.segments) s x)
+
 pub put_segment_here : (m : Memory) (s : ℕ) (v : Vec ℕ Global) → see (with_s m s v) ≡ with_segment (see m) s (vec_items v)
 put_segment_here m s v =
     ap (λ (ss : List (List ℕ)). record { processes = (see m).processes; segments = ss; next = m.next })

@@ -73,17 +73,13 @@ impl Memory {
     pub(crate) fn put_process(&mut self, process: usize, new: Process)
         ensures { see self.new ≡ with_process (see self.old) process (see_process new) }
     {
-        if let Some(place) = self.processes.get_mut(process) {
-            *place = new;
-        }
+        put_at(&mut self.processes, process, new);
     }
 
     pub(crate) fn put_segment(&mut self, segment: usize, new: Vec<u8>)
         ensures { see self.new ≡ with_segment (see self.old) segment new.items }
     {
-        if let Some(place) = self.segments.get_mut(segment) {
-            *place = new;
-        }
+        put_at(&mut self.segments, segment, new);
     }
 
     // A process leaves, and its pages with it.

@@ -46,11 +46,11 @@ pub(crate) fn byte_at(bytes: &[u8], offset: usize) -> u8
 }
 
 // Past the end nothing is put.
-pub(crate) fn put_at(bytes: &mut Vec<u8>, offset: usize, byte: u8)
-    ensures { bytes.new.items ≡ slice_set bytes.old.items offset byte }
+pub(crate) fn put_at<T: Drop>(items: &mut Vec<T>, i: usize, new: T)
+    ensures { items.new.items ≡ slice_set items.old.items i new }
 {
-    if let Some(place) = bytes.get_mut(offset) {
-        *place = byte;
+    if let Some(place) = items.get_mut(i) {
+        *place = new;
     }
 }
 

@@ -3,7 +3,7 @@ ghost use Rattle.std.specs.Prelude.{◌≡◌, false, IfOk, if◌then◌else◌,
 ghost use Rattle.fold.specs.Fold.{over_pages};
 ghost use Rattle.private.specs.SeePage.{see_page, see_process, matching, blank, put_in, rewritten_in};
 
-use super::page::{Page, Sought};
+use super::page::{Page, Sought, put_at};
 use std::alloc::{AllocError, Global};
 
 #[derive(Clone, Drop)]
@@ -39,9 +39,7 @@ impl Process {
     pub(crate) fn put(&mut self, page: usize, new: Page)
         ensures { see_process self.new ≡ put_in (see_process self.old) page (see_page new) }
     {
-        if let Some(place) = self.pages.get_mut(page) {
-            *place = new;
-        }
+        put_at(&mut self.pages, page, new);
     }
 
     // It leaves: no page stays.

@@ -81,9 +81,8 @@ fn make_this(
     };
     make_in(memory, process, page, segment, taken.frame);
     let registers = Registers {
-        hand: registers.hand,
-        transfers: registers.transfers,
         lookaside: memory.purged(registers.lookaside),
+        ..registers
     };
     let made = Made {
         segment,

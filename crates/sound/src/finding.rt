@@ -27,7 +27,7 @@ pub enum Finding {
     HandAstray,
 }
 
-// What is looked at, one thing after the other.
+// What will be looked at, one thing after the other.
 #[derive(Clone, Copy)]
 pub(crate) enum Check {
     Counts,

@@ -1,4 +1,4 @@
-// Whether a manager's state is sound, and what is wrong with it if it is not.
+// What it takes to say whether a manager's state is sound, and what is wrong with it if it is not. Nothing decides it yet.
 #![tactic(auto)]
 
 mod checks;

@@ -43,10 +43,7 @@ impl Entry {
         ensures same { result.target ≡ self.target }
     {
         match self.target {
-            Target::Frame(_) | Target::Place(_) => Entry {
-                target: self.target,
-                copy: true,
-            },
+            Target::Frame(_) | Target::Place(_) => Entry { copy: true, ..self },
             _ => self,
         }
     }

@@ -36,7 +36,7 @@ pub fn clear_row(table: &mut [u16], pages: usize, process: usize)
 }
 
 // Copies the row of a process for its child: an own page with a frame or a place is marked in both rows, since a store has to look
-// whether to copy it.
+// whether to copy it. By index: parent and child may be the same, so the rows are no two slices of their own.
 pub fn copy_row(table: &mut [u16], limits: Limits, pages: usize, parent: usize, child: usize)
     requires parent_long { parent * pages + pages ≤ length table.old }
     requires child_long { child * pages + pages ≤ length table.old }

@@ -36,7 +36,7 @@ impl Tables<'_> {
         read(self.table, self.limits, self.pages, process, page)
     }
 
-    // Reads the tables and changes nothing.
+    // Where a page of a process lies, and whether a store to it needs no copy.
     pub fn walk(&self, process: usize, page: usize) -> Found
         requires inside { page < self.now.pages }
         requires long { process * self.now.pages + self.now.pages ≤ length self.now.table.now }

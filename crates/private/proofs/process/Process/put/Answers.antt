@@ -1,5 +1,5 @@
-use Rattle.private.proofs.Pages.{put_here}
+use Rattle.private.proofs.Pages.{put_is}
 use Rattle.private.proofs.process.Process.put.Goals as goal
 
-pub returns-in-Some : goal.returns-in-Some
-returns-in-Some c = put_here c.args.self.now c.args.page c.args.new
+pub returns : goal.returns
+returns c = put_is c.args.self.now c.put_at.new.items c.args.page c.args.new c.put_at.ensures
