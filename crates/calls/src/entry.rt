@@ -93,7 +93,8 @@ fn serve_cut(
     serve_lent(manager, &mut lent, call)
 }
 
-// Answers a call. Lent memory may be longer than the machine needs, and may hold anything: the call is answered, and nothing outside is touched.
+// Answers a call. Lent memory may be longer than the machine needs, and may hold anything: the call is answered, and nothing outside is touched. Which slice
+// each field is stands in a clause of its own: by `shape` alone the proof of a caller that lends vectors didn't close.
 pub fn call(manager: &mut Manager, lent: &mut Lent<'_>, call: Call) -> Result<Answer, Refusal>
     ensures called { Called (entry_refusal manager.old.sizes (lists lent.old)) manager.old (lists lent.old) (asked call) result manager.new (lists lent.new) }
     ensures kept { shape lent.new ≡ shape lent.old }

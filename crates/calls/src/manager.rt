@@ -8,6 +8,7 @@ use disk::registers::Registers;
 use requests::sizes::Sizes;
 use tables::entry::Limits;
 
+// No memory is taken for it, so there is a flag for each process that a machine can have.
 #[derive(Clone, Copy)]
 pub struct Manager {
     pub sizes: Sizes,
@@ -16,7 +17,7 @@ pub struct Manager {
 }
 
 impl Manager {
-    // How many frames, places and segments an entry may name.
+    // How many frames, places and segments an entry may name. No `From`: neither type is of this crate.
     pub fn limits(self) -> Limits
         ensures { result ≡ limits_of self.sizes }
     {

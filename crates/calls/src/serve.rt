@@ -21,7 +21,8 @@ fn counts(manager: Manager) -> Answer
     Answer::Done(u64::from(transfers.reads) * 65536 + u64::from(transfers.writes))
 }
 
-// Answers each kind of call. That the record fits its memory is a clause of each call and no field of a type.
+// Answers each kind of call. The record goes by value through the core and memory by reference, as this project passes them, so no type holds both and
+// says that they fit.
 pub(crate) fn serve(manager: Manager, memory: &mut Memory<'_>, call: Call) -> (Manager, Answer)
     requires { Fits manager.sizes memory.old }
     ensures { ServesAsked manager memory.old (asked call) result memory.new }
@@ -49,6 +50,7 @@ pub(crate) fn serve(manager: Manager, memory: &mut Memory<'_>, call: Call) -> (M
             offset,
             byte,
         } => {
+            // no `From`: neither type is of this crate
             let asked = Store {
                 process,
                 page,

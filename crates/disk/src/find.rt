@@ -28,7 +28,7 @@ fn turn_hand(lent: &mut Lent<'_>, hand: Hand) -> Turn
 }
 
 impl Memory<'_> {
-    // The lowest frame that nobody has.
+    // The lowest frame that nobody has. This and the next are `lowest_free` of a table each, and tell by which limit what it finds is bounded.
     fn free_frame(&self) -> Option<usize>
         ensures value { result ≡ lowest_free self.now.lent.frame_counts.now }
         ensures within { IfSome result (λ f. f < self.now.limits.frames) }
@@ -74,7 +74,8 @@ impl Memory<'_> {
         self.turned(registers, turn, registers.transfers.wrote())
     }
 
-    // The page of the frame that the hand chooses and the page in a place change places.
+    // The page of the frame that the hand chooses and the page in a place change places. One function for this and the one above, with the move as a
+    // parameter, would need the move's law as a clause, which is longer than the body.
     fn trade(&mut self, registers: Registers, place: usize) -> (Registers, Taken)
         requires { place < self.old.limits.places }
         ensures fixed { fixed self.new ≡ fixed self.old }

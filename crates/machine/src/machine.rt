@@ -1,4 +1,4 @@
-// The manager and the memory that it works on, long enough for its sizes.
+// The manager and the memory that it works on, long enough for its sizes: a vector for each slice that it is lent.
 ghost use Rattle.std.specs.Prelude.{◌≡◌, false, is_some};
 ghost use Rattle.disk.specs.Moves.{lent};
 ghost use Rattle.calls.specs.Entry.{entry_refusal};

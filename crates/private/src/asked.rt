@@ -7,8 +7,9 @@ ghost use Rattle.private.specs.See.{see, page_at, inside_at, reached_at, free_at
 
 use super::machine::Machine;
 use super::memory::Memory;
-use super::page::{Address, BYTES, Page, Sought, byte_at};
+use super::page::{Address, BYTES, Page, Sought};
 use requests::answer::Answer;
+use requests::sizes::byte_at;
 
 impl Memory {
     pub(crate) fn has_page(&self, place: Address) -> bool

@@ -1,5 +1,5 @@
 // A page of a process.
-ghost use Rattle.std.specs.Prelude.{◌≡◌, replicate, IfOk, if◌then◌else◌, slice_index, slice_set};
+ghost use Rattle.std.specs.Prelude.{◌≡◌, replicate, IfOk, if◌then◌else◌, slice_set};
 ghost use Rattle.fold.specs.Fold.{there};
 ghost use Rattle.private.specs.SeePage.{see_page, matching, rewritten};
 
@@ -36,13 +36,6 @@ pub(crate) fn zeros(heap: Global) -> Result<Vec<u8>, AllocError>
     ensures { IfOk result (λ v. v.items ≡ replicate 256 0) }
 {
     Vec::from_elem(heap, 0, BYTES)
-}
-
-// A byte, or 0 past the end.
-pub(crate) fn byte_at(bytes: &[u8], offset: usize) -> u8
-    ensures { result ≡ slice_index bytes.now offset }
-{
-    bytes.get(offset).copied().unwrap_or(0)
 }
 
 // Past the end nothing is put.

@@ -5,6 +5,7 @@ ghost use Rattle.requests.specs.Text.{answer_text, refusal_text};
 
 use std::fmt;
 
+// No `Result`: fault and full are answers that the rules give, as done is, and the record and memory come with each.
 #[derive(Clone, Copy, PartialEq, Eq, Debug)]
 pub enum Answer {
     Done(u64),
@@ -30,7 +31,7 @@ pub enum Part {
     Tables,
 }
 
-// Each with what its place in the table of refusals says.
+// Each with what is refused: which size or part, how long the row is, or which call.
 #[derive(Clone, Copy, PartialEq, Eq, Debug)]
 pub enum Refusal {
     // a size out of range

@@ -54,7 +54,8 @@ fn in_range(size: Size, count: usize, range: RangeInclusive<usize>) -> Result<()
     }
 }
 
-fn byte_at(bytes: &[u8], i: usize) -> u8
+// A byte, or 0 past the end.
+pub fn byte_at(bytes: &[u8], i: usize) -> u8
     ensures { result ≡ slice_index bytes.now i }
 {
     bytes.get(i).copied().unwrap_or(0)

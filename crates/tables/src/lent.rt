@@ -3,7 +3,8 @@ ghost use Rattle.std.specs.Prelude.{◌≡◌, length};
 
 use crate::entry::Limits;
 
-// Each table, the frames and the disk, of any length and with anything in it.
+// Each table, the frames and the disk, of any length and with anything in it. Lists side by side and plain numbers: no memory is taken, and whatever
+// is lent is read.
 #[derive(Drop)]
 pub struct Lent<'a> {
     pub table: &'a mut [u16],
