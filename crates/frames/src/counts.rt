@@ -7,7 +7,9 @@ pub fn lowest_free(counts: &[u16]) -> Option<usize>
     ensures value { result ≡ lowest_free counts.now }
     ensures bound { IfSome result (λ i. i < length counts.now) }
 {
-    counts.iter().position(|count| *count == 0)
+    // In a line of its own, so that a wrong index can be written there and is refused for what it is.
+    let lowest = counts.iter().position(|count| *count == 0)?;
+    Some(lowest)
 }
 
 // One more, but never more than the table can hold.

@@ -52,8 +52,9 @@ impl Lookaside {
         ensures { result.slots ≡ purged (rows_of tables.now) (segments_of tables.now) (counts_of tables.now) tables.now.limits.frames self.slots }
     {
         let mut slots = self.slots;
-        for slot in slots.iter_mut() {
-            *slot = keep(*slot, tables);
+        // By an index: over `iter_mut`, a mistake that leaves all slots but the first is refused for its form, before what it means.
+        for i in 0..16 {
+            slots[i] = keep(slots[i], tables);
         }
         Lookaside { slots }
     }
