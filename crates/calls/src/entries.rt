@@ -42,7 +42,7 @@ pub(crate) fn drop_at(memory: &mut Memory<'_>, process: usize, page: usize)
 {
     let limits = memory.limits;
     let pages = memory.pages;
-    release::drop_page(&mut memory.lent, limits, pages, process, page);
+    release::drop_page_lent(&mut memory.lent, limits, pages, process, page);
 }
 
 // The page looks at a segment.
@@ -56,7 +56,7 @@ fn look_at(memory: &mut Memory<'_>, process: usize, page: usize, segment: usize)
 {
     let limits = memory.limits;
     let pages = memory.pages;
-    release::look(&mut memory.lent, limits, pages, process, page, segment);
+    release::look_lent(&mut memory.lent, limits, pages, process, page, segment);
 }
 
 // The page is absent, and what it was has one user less.

@@ -34,11 +34,11 @@ fn nothing<'a>() -> Lent<'a>
 }
 
 // Answers a call on lent memory that is exactly as long as the sizes say. The slices are taken out of what was lent and put back, since memory owns
-// its slices.
-fn serve_lent(manager: Manager, lent: &mut Lent<'_>, call: Call) -> (Manager, Answer)
-    requires range { InRange (ranged manager.sizes) }
-    requires exact { ExactLent manager.sizes (lists lent.old) }
-    ensures served { Served manager (lists lent.old) (asked call) result (lists lent.new) }
+// its slices. The record goes by value from here on, and is copied once on the way in and once on the way out.
+fn serve_lent(manager: &mut Manager, lent: &mut Lent<'_>, call: Call) -> Answer
+    requires range { InRange (ranged manager.old.sizes) }
+    requires exact { ExactLent manager.old.sizes (lists lent.old) }
+    ensures served { Served manager.old (lists lent.old) (asked call) (manager.new, result) (lists lent.new) }
     ensures kept { shape lent.new ≡ shape lent.old }
     ensures same_table { lent.new.table.ghost_name ≡ lent.old.table.ghost_name }
     ensures same_segments { lent.new.segments.ghost_name ≡ lent.old.segments.ghost_name }
@@ -56,16 +56,17 @@ fn serve_lent(manager: Manager, lent: &mut Lent<'_>, call: Call) -> (Manager, An
         pages: sizes.pages,
         lent: mem::replace(lent, nothing()),
     };
-    let served = serve(manager, &mut memory, call);
+    let (record, answer) = serve(*manager, &mut memory, call);
     let Memory { lent: back, .. } = memory;
     *lent = back;
-    served
+    *manager = record;
+    answer
 }
 
 // Answers a call on slices that the entry cuts off longer ones. Each is a parameter of its own: the check does not follow a part of a slice that is
 // lent to be written into a struct.
 fn serve_cut(
-    manager: Manager,
+    manager: &mut Manager,
     table: &mut [u16],
     segments: &mut [u16],
     lookers: &mut [u16],
@@ -75,10 +76,10 @@ fn serve_cut(
     frames: &mut [u8],
     disk: &mut [u8],
     call: Call,
-) -> (Manager, Answer)
-    requires range { InRange (ranged manager.sizes) }
-    requires exact { ExactLent manager.sizes (moves.lent table.old segments.old lookers.old frame_counts.old used.old place_counts.old frames.old disk.old) }
-    ensures { Served manager (moves.lent table.old segments.old lookers.old frame_counts.old used.old place_counts.old frames.old disk.old) (asked call) result (moves.lent table.new segments.new lookers.new frame_counts.new used.new place_counts.new frames.new disk.new) }
+) -> Answer
+    requires range { InRange (ranged manager.old.sizes) }
+    requires exact { ExactLent manager.old.sizes (moves.lent table.old segments.old lookers.old frame_counts.old used.old place_counts.old frames.old disk.old) }
+    ensures { Served manager.old (moves.lent table.old segments.old lookers.old frame_counts.old used.old place_counts.old frames.old disk.old) (asked call) (manager.new, result) (moves.lent table.new segments.new lookers.new frame_counts.new used.new place_counts.new frames.new disk.new) }
 {
     let mut lent = Lent {
         table,
@@ -95,7 +96,7 @@ fn serve_cut(
 
 // Answers a call. Lent memory may be longer than the machine needs, and may hold anything: the call is answered, and nothing outside is touched. Which slice
 // each field is stands in a clause of its own: by `shape` alone the proof of a caller that lends vectors didn't close.
-pub fn call(manager: &mut Manager, lent: &mut Lent<'_>, call: Call) -> Result<Answer, Refusal>
+pub fn call_lent(manager: &mut Manager, lent: &mut Lent<'_>, call: Call) -> Result<Answer, Refusal>
     ensures called { Called (entry_refusal manager.old.sizes (lists lent.old)) manager.old (lists lent.old) (asked call) result manager.new (lists lent.new) }
     ensures kept { shape lent.new ≡ shape lent.old }
     ensures same_table { lent.new.table.ghost_name ≡ lent.old.table.ghost_name }
@@ -107,11 +108,10 @@ pub fn call(manager: &mut Manager, lent: &mut Lent<'_>, call: Call) -> Result<An
     ensures same_frames { lent.new.frames.ghost_name ≡ lent.old.frames.ghost_name }
     ensures same_disk { lent.new.disk.ghost_name ≡ lent.old.disk.ghost_name }
 {
-    let record = *manager;
-    let sizes = record.sizes;
+    let sizes = manager.sizes;
     admit(sizes, lent)?;
-    let (record, answer) = serve_cut(
-        record,
+    let answer = serve_cut(
+        manager,
         &mut lent.table[0..sizes.processes * sizes.pages],
         &mut lent.segments[0..sizes.segments],
         &mut lent.lookers[0..sizes.segments],
@@ -122,12 +122,11 @@ pub fn call(manager: &mut Manager, lent: &mut Lent<'_>, call: Call) -> Result<An
         &mut lent.disk[0..sizes.places * 256],
         call,
     );
-    *manager = record;
     Ok(answer)
 }
 
 // Answers a call that numbers of any size say. A kind that is none is refused; whatever else is out of range is a fault.
-pub fn call_by_numbers(
+pub fn call_lent_by_numbers(
     manager: &mut Manager,
     lent: &mut Lent<'_>,
     kind: usize,
@@ -148,5 +147,65 @@ pub fn call_by_numbers(
     ensures same_disk { lent.new.disk.ghost_name ≡ lent.old.disk.ghost_name }
 {
     let request = Call::from_numbers(kind, process, page, third, fourth).ok_or(Refusal::Kind(0))?;
-    call(manager, lent, request)
+    call_lent(manager, lent, request)
+}
+
+// `call_lent` on slices that are lent one by one, as `open` takes them.
+pub fn call(
+    manager: &mut Manager,
+    table: &mut [u16],
+    segments: &mut [u16],
+    lookers: &mut [u16],
+    frame_counts: &mut [u16],
+    used: &mut [u16],
+    place_counts: &mut [u16],
+    frames: &mut [u8],
+    disk: &mut [u8],
+    call: Call,
+) -> Result<Answer, Refusal>
+    ensures { Called (entry_refusal manager.old.sizes (moves.lent table.old segments.old lookers.old frame_counts.old used.old place_counts.old frames.old disk.old)) manager.old (moves.lent table.old segments.old lookers.old frame_counts.old used.old place_counts.old frames.old disk.old) (asked call) result manager.new (moves.lent table.new segments.new lookers.new frame_counts.new used.new place_counts.new frames.new disk.new) }
+{
+    let mut lent = Lent {
+        table,
+        segments,
+        lookers,
+        frame_counts,
+        used,
+        place_counts,
+        frames,
+        disk,
+    };
+    call_lent(manager, &mut lent, call)
+}
+
+// `call_lent_by_numbers` on slices that are lent one by one.
+pub fn call_by_numbers(
+    manager: &mut Manager,
+    table: &mut [u16],
+    segments: &mut [u16],
+    lookers: &mut [u16],
+    frame_counts: &mut [u16],
+    used: &mut [u16],
+    place_counts: &mut [u16],
+    frames: &mut [u8],
+    disk: &mut [u8],
+    kind: usize,
+    process: usize,
+    page: usize,
+    third: usize,
+    fourth: usize,
+) -> Result<Answer, Refusal>
+    ensures { Numbered (call_of_numbers kind process page third fourth) manager.old (moves.lent table.old segments.old lookers.old frame_counts.old used.old place_counts.old frames.old disk.old) result manager.new (moves.lent table.new segments.new lookers.new frame_counts.new used.new place_counts.new frames.new disk.new) }
+{
+    let mut lent = Lent {
+        table,
+        segments,
+        lookers,
+        frame_counts,
+        used,
+        place_counts,
+        frames,
+        disk,
+    };
+    call_lent_by_numbers(manager, &mut lent, kind, process, page, third, fourth)
 }

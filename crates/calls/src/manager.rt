@@ -18,8 +18,8 @@ pub struct Manager {
 
 impl Manager {
     // How many frames, places and segments an entry may name. No `From`: neither type is of this crate.
-    pub fn limits(self) -> Limits
-        ensures { result ≡ limits_of self.sizes }
+    pub fn limits(&self) -> Limits
+        ensures { result ≡ limits_of self.now.sizes }
     {
         Limits {
             frames: self.sizes.frames,

@@ -2,6 +2,7 @@
 ghost use Rattle.std.specs.Prelude.{◌≡◌, ◌-◌, true, false, ◌∷◌, take, replicate, None};
 ghost use Rattle.requests.specs.Ranges.{InRange, ranged};
 ghost use Rattle.tables.specs.Lent.{lists, shape};
+ghost use Rattle.disk.specs.Moves as moves;
 ghost use Rattle.calls.specs.Entry.{entry_refusal, Opened};
 
 use crate::lent::admit;
@@ -39,7 +40,7 @@ fn start(sizes: Sizes) -> Manager
 
 // Opens a manager over lent memory, which may be longer than the machine needs. All pages are absent and all memory is zeros then: 0 is the number of an absent
 // entry, of a count of nobody, and of a frame that was not used. The rest of lent memory is not touched.
-pub fn open(sizes: Sizes, lent: &mut Lent<'_>) -> Result<Manager, Refusal>
+pub fn open_lent(sizes: Sizes, lent: &mut Lent<'_>) -> Result<Manager, Refusal>
     ensures opened { Opened (entry_refusal sizes (lists lent.old)) sizes (lists lent.old) result (lists lent.new) }
     ensures kept { shape lent.new ≡ shape lent.old }
     ensures same_table { lent.new.table.ghost_name ≡ lent.old.table.ghost_name }
@@ -61,4 +62,32 @@ pub fn open(sizes: Sizes, lent: &mut Lent<'_>) -> Result<Manager, Refusal>
     lent.frames[0..sizes.frames * 256].fill(0);
     lent.disk[0..sizes.places * 256].fill(0);
     Ok(start(sizes))
+}
+
+// Opens a manager over slices that are lent one by one, as `open_lent` does over all memory as one value. Slices of vectors, and parts of longer slices, are
+// lent so: the check does not follow them into a struct that writes them.
+pub fn open(
+    sizes: Sizes,
+    table: &mut [u16],
+    segments: &mut [u16],
+    lookers: &mut [u16],
+    frame_counts: &mut [u16],
+    used: &mut [u16],
+    place_counts: &mut [u16],
+    frames: &mut [u8],
+    disk: &mut [u8],
+) -> Result<Manager, Refusal>
+    ensures { Opened (entry_refusal sizes (moves.lent table.old segments.old lookers.old frame_counts.old used.old place_counts.old frames.old disk.old)) sizes (moves.lent table.old segments.old lookers.old frame_counts.old used.old place_counts.old frames.old disk.old) result (moves.lent table.new segments.new lookers.new frame_counts.new used.new place_counts.new frames.new disk.new) }
+{
+    let mut lent = Lent {
+        table,
+        segments,
+        lookers,
+        frame_counts,
+        used,
+        place_counts,
+        frames,
+        disk,
+    };
+    open_lent(sizes, &mut lent)
 }

@@ -5,23 +5,6 @@ use requests::answer::*;
 use requests::request::*;
 use requests::sizes::Sizes;
 use std::test::Fail;
-use tables::lent::Lent;
-
-// All memory, list by list.
-macro_rules! lent {
-    ($table:expr, $segments:expr, $lookers:expr, $counts:expr, $used:expr, $places:expr, $frames:expr, $disk:expr) => {
-        Lent {
-            table: $table,
-            segments: $segments,
-            lookers: $lookers,
-            frame_counts: $counts,
-            used: $used,
-            place_counts: $places,
-            frames: $frames,
-            disk: $disk,
-        }
-    };
-}
 
 const SIZES: Sizes = Sizes {
     processes: 2,
@@ -39,32 +22,28 @@ fn memory_is_measured_first(rt: HostRuntime) {
     let (mut frames, mut short, mut long) = ([7u8; 256], [7u8; 255], [7u8; 257]);
     let refused = open(
         SIZES,
-        &mut lent!(
-            &mut table,
-            &mut segments,
-            &mut lookers,
-            &mut counts,
-            &mut used,
-            &mut places,
-            &mut frames,
-            &mut short
-        ),
+        &mut table,
+        &mut segments,
+        &mut lookers,
+        &mut counts,
+        &mut used,
+        &mut places,
+        &mut frames,
+        &mut short,
     );
     assert!(rt;
         matches!(refused, Err(Refusal::Lent(Part::Disk))) && table[0] == 7 && frames[0] == 7
     );
     let opened = open(
         SIZES,
-        &mut lent!(
-            &mut table,
-            &mut segments,
-            &mut lookers,
-            &mut counts,
-            &mut used,
-            &mut places,
-            &mut frames,
-            &mut long
-        ),
+        &mut table,
+        &mut segments,
+        &mut lookers,
+        &mut counts,
+        &mut used,
+        &mut places,
+        &mut frames,
+        &mut long,
     );
     assert!(rt; opened.is_ok() && table[0] == 0 && table[1] == 0 && table[2] == 7);
     assert!(rt; long[255] == 0 && long[256] == 7);
@@ -78,16 +57,14 @@ fn damaged_memory_is_answered(rt: HostRuntime) -> Result<(), Fail> {
     let (mut frames, mut disk) = ([0u8; 256], [0u8; 256]);
     let opened = open(
         SIZES,
-        &mut lent!(
-            &mut table,
-            &mut segments,
-            &mut lookers,
-            &mut counts,
-            &mut used,
-            &mut places,
-            &mut frames,
-            &mut disk
-        ),
+        &mut table,
+        &mut segments,
+        &mut lookers,
+        &mut counts,
+        &mut used,
+        &mut places,
+        &mut frames,
+        &mut disk,
     );
     let Ok(mut manager) = opened else {
         return Err(Fail::new("not opened"));
@@ -97,16 +74,14 @@ fn damaged_memory_is_answered(rt: HostRuntime) -> Result<(), Fail> {
     segments = [65535];
     let absent = call(
         &mut manager,
-        &mut lent!(
-            &mut table,
-            &mut segments,
-            &mut lookers,
-            &mut counts,
-            &mut used,
-            &mut places,
-            &mut frames,
-            &mut disk
-        ),
+        &mut table,
+        &mut segments,
+        &mut lookers,
+        &mut counts,
+        &mut used,
+        &mut places,
+        &mut frames,
+        &mut disk,
         Call::Drop {
             process: 0,
             page: 0,
@@ -117,16 +92,14 @@ fn damaged_memory_is_answered(rt: HostRuntime) -> Result<(), Fail> {
     table = [4, 14];
     let dropped = call_by_numbers(
         &mut manager,
-        &mut lent!(
-            &mut table,
-            &mut segments,
-            &mut lookers,
-            &mut counts,
-            &mut used,
-            &mut places,
-            &mut frames,
-            &mut disk
-        ),
+        &mut table,
+        &mut segments,
+        &mut lookers,
+        &mut counts,
+        &mut used,
+        &mut places,
+        &mut frames,
+        &mut disk,
         4,
         0,
         0,

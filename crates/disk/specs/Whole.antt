@@ -28,6 +28,16 @@ whole z pages processes r m =
       slots = r.lookaside.slots;
     }
 
+-- the lent lists that moving pages needs are as long as the sizes say
+pub record Exact (z : Limits) (pages processes : ℕ) (ts ss fs us ps bytes disk-bytes : List ℕ) : Type 0 where
+  pub table : length ts ≡ processes * pages
+  pub segments : length ss ≡ z.segments
+  pub frame_counts : length fs ≡ z.frames
+  pub used : length us ≡ z.frames
+  pub place_counts : length ps ≡ z.places
+  pub frames : length bytes ≡ z.frames * 256
+  pub disk : length disk-bytes ≡ z.places * 256
+
 -- Which frame's page goes to the disk: by the number of frames, where the hand rests, and the used marks.
 abbrev pub Choice : Type 0
 Choice = ℕ → ℕ → List ℕ → Turned

@@ -1,20 +1,23 @@
 // A frame for whoever needs one, and pages that come in.
-ghost use Rattle.std.specs.Prelude.{◌≡◌, ◌<◌, length, IfSome, Option};
+ghost use Rattle.std.specs.Prelude.{◌≡◌, ℕ, ◌*◌, ◌<◌, List, length, IfSome, Option};
 ghost use Rattle.frames.specs.Counts.{lowest_free};
 ghost use Rattle.frames.specs.Turn.{turn};
+ghost use Rattle.tables.specs.Cells.{Few};
 ghost use Rattle.tables.specs.Lent.{lists, shape};
 ghost use Rattle.lookaside.specs.Purge.{purged};
 ghost use Rattle.disk.specs.declared.registers.Taken.{Taken};
 ghost use Rattle.disk.specs.Frames.{BringKeepsBytes, BringKeepsCounts, NoneOnlyIfFull, TakeKeepsBytes, TakeKeepsCounts, TakenIsFree};
 ghost use Rattle.disk.specs.Memory.{fixed, marks, state_of, whole_of};
-ghost use Rattle.disk.specs.Whole.{bring_in, fetched, sent_out, take_frame, traded, Whole};
+ghost use Rattle.disk.specs.Moves.{lent};
+ghost use Rattle.disk.specs.Whole.{bring_in, Exact, fetched, sent_out, take_frame, traded, Whole, whole};
 
 use crate::memory::Memory;
-use crate::moves::{move_in, move_out, swap_pages};
+use crate::moves::{move_in_lent, move_out, move_out_lent, swap_pages_lent};
 use crate::registers::{Registers, Taken, Transfers};
 use frames::counts::lowest_free;
 use frames::hand::{Hand, Turn};
-use tables::lent::Lent;
+use tables::entry::Limits;
+use tables::lent::{Lent, Tables};
 
 // The hand goes round over the frames, and the marks that it passes are cleared.
 fn turn_hand(lent: &mut Lent<'_>, hand: Hand) -> Turn
@@ -70,7 +73,7 @@ impl Memory<'_> {
     {
         let limits = self.limits;
         let turn = turn_hand(&mut self.lent, registers.hand);
-        move_out(&mut self.lent, limits, turn.frame, place);
+        move_out_lent(&mut self.lent, limits, turn.frame, place);
         self.turned(registers, turn, registers.transfers.wrote())
     }
 
@@ -84,7 +87,7 @@ impl Memory<'_> {
     {
         let limits = self.limits;
         let turn = turn_hand(&mut self.lent, registers.hand);
-        swap_pages(&mut self.lent, limits, turn.frame, place);
+        swap_pages_lent(&mut self.lent, limits, turn.frame, place);
         self.turned(registers, turn, registers.transfers.read().wrote())
     }
 
@@ -96,7 +99,7 @@ impl Memory<'_> {
         ensures value { whole_of result self.new ≡ fetched self.old.limits.frames frame place (whole_of registers self.old) }
     {
         let limits = self.limits;
-        move_in(&mut self.lent, limits, frame, place);
+        move_in_lent(&mut self.lent, limits, frame, place);
         Registers {
             transfers: registers.transfers.read(),
             lookaside: self.purged(registers.lookaside),
@@ -140,6 +143,61 @@ impl Memory<'_> {
         let (registers, taken) = self.send_out(registers, free);
         (self.fetch(registers, taken.frame, place), taken)
     }
+}
+
+// `Memory::take_frame` for whoever has the frames only to read, and the counts of segments not at all.
+pub fn take_frame(
+    table: &mut [u16],
+    segments: &mut [u16],
+    frame_counts: &mut [u16],
+    used: &mut [u16],
+    place_counts: &mut [u16],
+    frames: &[u8],
+    disk: &mut [u8],
+    limits: Limits,
+    processes: usize,
+    pages: usize,
+    registers: Registers,
+) -> (Registers, Option<Taken>)
+    requires exact { Exact limits pages processes table.old segments.old frame_counts.old used.old place_counts.old frames.now disk.old }
+    requires few { Few limits }
+    requires some { 0 < limits.frames }
+    ensures value { (lookers : List ℕ) → ◌≡◌ {A = Whole × Option Taken} ((whole limits pages processes result.0 (lent table.new segments.new lookers frame_counts.new used.new place_counts.new frames.now disk.new)), result.1) (take_frame turn limits.frames (whole limits pages processes registers (lent table.old segments.old lookers frame_counts.old used.old place_counts.old frames.now disk.old))) }
+    ensures within { IfSome result.1 (λ t. t.frame < limits.frames) }
+{
+    if let Some(frame) = lowest_free(frame_counts) {
+        return (registers, Some(Taken { frame, looks: 0 }));
+    }
+    let Some(place) = lowest_free(place_counts) else {
+        return (registers, None);
+    };
+    let Turn { frame, hand, looks } = registers.hand.turn(used);
+    move_out(
+        table,
+        segments,
+        frame_counts,
+        place_counts,
+        frames,
+        disk,
+        limits,
+        frame,
+        place,
+    );
+    let tables = Tables {
+        limits,
+        processes,
+        pages,
+        table,
+        segments,
+        frame_counts,
+        place_counts,
+    };
+    let registers = Registers {
+        hand,
+        transfers: registers.transfers.wrote(),
+        lookaside: registers.lookaside.purge(&tables),
+    };
+    (registers, Some(Taken { frame, looks }))
 }
 
 // Of a frame that was taken, whatever the choice: nobody names it any more. None is given only where nothing is free, and then nothing has

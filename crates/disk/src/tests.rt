@@ -1,4 +1,5 @@
 // Each path on a small machine: one page of each process, one or two frames, one place.
+use crate::find::take_frame;
 use crate::memory::Memory;
 use crate::registers::*;
 use frames::hand::Hand;
@@ -159,5 +160,41 @@ fn a_page_comes_in_though_all_is_used(rt: HostRuntime) -> Result<(), Fail> {
     assert!(rt; counts[0] == 1 && places[0] == 2);
     assert_eq!(rt; load(&frames, 0, 0), 9);
     assert_eq!(rt; load(&disk, 0, 255), 7);
+    Ok(())
+}
+
+// Whoever has the frames only to read gets a frame too: the page goes out to the place that is free.
+#[test]
+fn a_frame_is_taken_from_frames_that_are_read(rt: HostRuntime) -> Result<(), Fail> {
+    let limits = Limits {
+        frames: 1,
+        places: 1,
+        segments: 0,
+    };
+    let mut table = [code!(Target::Frame(0))];
+    let mut counts = [1u16];
+    let mut used = [0u16];
+    let mut places = [0u16];
+    let frames = [7u8; 256];
+    let mut disk = [9u8; 256];
+    let (after, some) = take_frame(
+        &mut table,
+        &mut [],
+        &mut counts,
+        &mut used,
+        &mut places,
+        &frames,
+        &mut disk,
+        limits,
+        1,
+        1,
+        registers!(),
+    );
+    let Some(taken) = some else {
+        return Err(Fail::new("no frame"));
+    };
+    assert!(rt; taken.frame == 0 && taken.looks == 1 && after.transfers.writes == 1);
+    assert!(rt; table[0] == code!(Target::Place(0)) && counts[0] == 0 && places[0] == 1);
+    assert_eq!(rt; load(&disk, 0, 0), 7);
     Ok(())
 }

@@ -10,7 +10,7 @@ ghost use Rattle.segments.specs.declared.make.Made.{Made};
 ghost use Rattle.segments.specs.Full.{MakeFullExactly};
 ghost use Rattle.segments.specs.Make.{laid_in, made_in, make_of, make_segment};
 
-use crate::release::{look, put_segment};
+use crate::release::{look_lent, put_segment};
 use disk::memory::Memory;
 use disk::registers::Registers;
 use frames::counts::{count_up, lowest_free};
@@ -57,7 +57,7 @@ fn make_in(memory: &mut Memory<'_>, process: usize, page: usize, segment: usize,
     let limits = memory.limits;
     let pages = memory.pages;
     lay(&mut memory.lent, limits, segment, frame);
-    look(&mut memory.lent, limits, pages, process, page, segment);
+    look_lent(&mut memory.lent, limits, pages, process, page, segment);
 }
 
 // Makes this segment, which nobody looks at.

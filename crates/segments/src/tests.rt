@@ -92,35 +92,14 @@ fn a_segment_comes_and_goes(rt: HostRuntime) -> Result<(), Fail> {
             && segments[0] == code!(Target::Frame(0))
             && load(&frames, 0, 255) == 0
     );
-    look(
-        &mut lent!(
-            &mut table,
-            &mut [],
-            &mut lookers,
-            &mut [],
-            &mut [],
-            &mut [],
-            &mut [],
-            &mut []
-        ),
-        limits,
-        1,
-        1,
-        0,
-        0,
-    );
+    look(&mut table, &mut lookers, limits, 1, 1, 0, 0);
     assert!(rt; table[1] == code!(Target::Segment(0)) && lookers[0] == 2);
     drop_page(
-        &mut lent!(
-            &mut table,
-            &mut segments,
-            &mut lookers,
-            &mut counts,
-            &mut [],
-            &mut [],
-            &mut [],
-            &mut []
-        ),
+        &mut table,
+        &mut segments,
+        &mut lookers,
+        &mut counts,
+        &mut [],
         limits,
         1,
         0,
@@ -148,16 +127,11 @@ fn a_segment_comes_and_goes(rt: HostRuntime) -> Result<(), Fail> {
     );
     assert!(rt; full.is_none() && table[0] == 0);
     drop_page(
-        &mut lent!(
-            &mut table,
-            &mut segments,
-            &mut lookers,
-            &mut counts,
-            &mut [],
-            &mut [],
-            &mut [],
-            &mut []
-        ),
+        &mut table,
+        &mut segments,
+        &mut lookers,
+        &mut counts,
+        &mut [],
         limits,
         1,
         1,

@@ -2,7 +2,7 @@ use Rattle.std.proofs.Common.{arith}
 use Rattle.tables.proofs.Rows.{row_within}
 use Rattle.calls.proofs.entries.drop_at.Goals as goal
 
-pub drop_page-requires-clause-long : goal.drop_page-requires-clause-long
-drop_page-requires-clause-long c =
+pub drop_page_lent-requires-clause-long : goal.drop_page_lent-requires-clause-long
+drop_page_lent-requires-clause-long c =
     let m = c.args.memory.now in
     omega (arith, row_within c.args.process m.processes m.pages c.requires.process_within, m.table_length)

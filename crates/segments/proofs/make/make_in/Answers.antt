@@ -8,4 +8,4 @@ pub returns-clause-made : goal.returns-clause-made
 unfolding made_in
 returns-clause-made c =
     let m = c.args.memory.now in
-    c.look.ensures.looked m.processes c.requires.process_within ∙ ap (λ (s : State). looked s c.args.process c.args.page c.args.segment) (c.lay.ensures.laid m.pages m.processes)
+    c.look_lent.ensures.looked m.processes c.requires.process_within ∙ ap (λ (s : State). looked s c.args.process c.args.page c.args.segment) (c.lay.ensures.laid m.pages m.processes)

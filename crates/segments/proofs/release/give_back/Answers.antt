@@ -4,21 +4,20 @@ use Rattle.tables.specs.declared.entry.Entry.{Entry}
 use Rattle.tables.specs.Cells.{Cell, cell, decoded, held_of, none, Within}
 use Rattle.tables.specs.Rows.{cells}
 use Rattle.tables.specs.State.{State, view}
-use Rattle.tables.specs.Lent.{lists}
+use Rattle.disk.specs.Moves.{lent}
 use Rattle.segments.specs.Release.{lowered, with_segments}
 use Rattle.segments.proofs.release.give_back.Goals as goal
 
-pub returns-clause-given_back : goal.returns-clause-given_back
+pub returns : goal.returns
 unfolding view
-returns-clause-given_back c pages processes =
+returns c pages processes table lookers used frames disk =
     let z = c.args.limits in
     let s = c.args.segment in
-    let before = c.args.lent.now in
-    let segs = before.segments.now in
-    let m = view z pages processes (lists before) in
-    let after = view z pages processes (lists c.lower.new.lent) in
+    let segs = c.args.segments.now in
+    let m = view z pages processes (lent table segs lookers c.args.frame_counts.now used c.args.place_counts.now frames disk) in
+    let after = view z pages processes (lent table segs lookers c.lower.new.frame_counts used c.lower.new.place_counts frames disk) in
     let gone : cells z c.put_segment.new.segments ≡ set (cells z segs) s none =
-    c.put_segment.ensures z (subst (λ (e : Entry). Within z e.target) (sym c.absent.ensures) tt) ∙ (λ i. set (cells z (c.lower.ensures.segments i)) s (cell z.frames (c.absent.ensures i))) in
+    c.put_segment.ensures z (subst (λ (e : Entry). Within z e.target) (sym c.absent.ensures) tt) ∙ ap (λ (e : Entry). set (cells z segs) s (cell z.frames e)) c.absent.ensures in
     let held : held_of z.frames c.decode-entry.result.target ≡ (get_or (cells z segs) s none).holds =
     ap (λ (k : Cell). k.holds) (c.decode-entry.ensures.value ∙ sym (get_or-map (decoded z) segs s 0 none (omega arith))) in
-    ap (with_segments after) gone ∙ ap (λ (n : State). with_segments n (set (cells z segs) s none)) (c.lower.ensures.lowered pages processes ∙ ap (lowered m) held)
+    ap (with_segments after) gone ∙ ap (λ (n : State). with_segments n (set (cells z segs) s none)) (c.lower.ensures pages processes table segs lookers used frames disk ∙ ap (lowered m) held)

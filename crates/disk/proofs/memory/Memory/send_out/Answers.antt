@@ -17,14 +17,14 @@ returns-clause-value c =
     let z = m.limits in
     let r = c.args.registers in
     let us = m.lent.used.now in
-    let left = c.move_out.new.lent in
+    let left = c.move_out_lent.new.lent in
     let hand = c.turn_hand-turn in
     let t : Turned = record { frame = hand.result.frame; rest = hand.result.hand.at; looks = hand.result.looks; used = hand.new.lent.used.now } in
     let turned : turn z.frames r.hand.at us ≡ t = ap (λ n. turn n r.hand.at us) (sym m.used_length) ∙ hand.ensures.value in
     let moved = gone_out t.frame (z.frames + c.args.place) in
     let transfers : Transfers = record { reads = r.transfers.reads; writes = counted r.transfers.writes } in
     let meant : view z m.pages m.processes (lists left) ≡ with_used (moved (state_of m)) t.used =
-    c.move_out.ensures.moved m.pages m.processes ∙ ap (λ (x : Lent). moved (view z m.pages m.processes x)) hand.ensures.marks in
+    c.move_out_lent.ensures.moved m.pages m.processes ∙ ap (λ (x : Lent). moved (view z m.pages m.processes x)) hand.ensures.marks in
     let w = whole_of r m in
     let all = turned_whole z m.pages m.processes w (lists left) c.turned.result.0 t (moved w.state) transfers meant (λ i. (c.turned.ensures.hand i).at) (c.turned.ensures.transfers ∙ c.wrote.ensures) c.turned.ensures.slots in
     (λ i. (all i, c.turned.ensures.taken i))

@@ -14,18 +14,18 @@ invariant_of-result c =
     let z = c.args.sizes in
     let g = c.in_ok-manager.manager in
     let given = lent c.as_mut_slice.result.now c.as_mut_slice-2.result.now c.as_mut_slice-3.result.now c.as_mut_slice-4.result.now c.as_mut_slice-5.result.now c.as_mut_slice-6.result.now c.as_mut_slice-7.result.now c.as_mut_slice-8.result.now in
-    let left = lent c.open_slices.new.table c.open_slices.new.segments c.open_slices.new.lookers c.open_slices.new.frame_counts c.open_slices.new.used c.open_slices.new.place_counts c.open_slices.new.frames c.open_slices.new.disk in
-    let after = lent (vec_items (with_items c.in_ok-table.table c.open_slices.new.table)) (vec_items (with_items c.in_ok-segments.segments c.open_slices.new.segments)) (vec_items (with_items c.in_ok-lookers.lookers c.open_slices.new.lookers)) (vec_items (with_items c.in_ok-frame_counts.frame_counts c.open_slices.new.frame_counts)) (vec_items (with_items c.in_ok-used.used c.open_slices.new.used)) (vec_items (with_items c.in_ok-place_counts.place_counts c.open_slices.new.place_counts)) (vec_items (with_items c.in_ok-frames.frames c.open_slices.new.frames)) (vec_items (with_items c.in_ok-disk.disk c.open_slices.new.disk)) in
-    let one = opened_manager (entry_refusal z given) z given c.open_slices.result left g c.in_ok-manager.was c.open_slices.ensures in
-    record { roomy = ap (λ (o : Option Refusal). is_some o) (ap (λ (y : Sizes). entry_refusal y after) one.1 ∙ as_roomy z given after (record { table = ap length (with_items_is c.in_ok-table.table c.open_slices.new.table (c.open_slices.auto.table ∙ c.as_mut_slice.ensures.len)) ∙ c.open_slices.auto.table; segments = ap length (with_items_is c.in_ok-segments.segments c.open_slices.new.segments (c.open_slices.auto.segments ∙ c.as_mut_slice-2.ensures.len)) ∙ c.open_slices.auto.segments; lookers = ap length (with_items_is c.in_ok-lookers.lookers c.open_slices.new.lookers (c.open_slices.auto.lookers ∙ c.as_mut_slice-3.ensures.len)) ∙ c.open_slices.auto.lookers; frame_counts = ap length (with_items_is c.in_ok-frame_counts.frame_counts c.open_slices.new.frame_counts (c.open_slices.auto.frame_counts ∙ c.as_mut_slice-4.ensures.len)) ∙ c.open_slices.auto.frame_counts; used = ap length (with_items_is c.in_ok-used.used c.open_slices.new.used (c.open_slices.auto.used ∙ c.as_mut_slice-5.ensures.len)) ∙ c.open_slices.auto.used; place_counts = ap length (with_items_is c.in_ok-place_counts.place_counts c.open_slices.new.place_counts (c.open_slices.auto.place_counts ∙ c.as_mut_slice-6.ensures.len)) ∙ c.open_slices.auto.place_counts; frames = ap length (with_items_is c.in_ok-frames.frames c.open_slices.new.frames (c.open_slices.auto.frames ∙ c.as_mut_slice-7.ensures.len)) ∙ c.open_slices.auto.frames; disk = ap length (with_items_is c.in_ok-disk.disk c.open_slices.new.disk (c.open_slices.auto.disk ∙ c.as_mut_slice-8.ensures.len)) ∙ c.open_slices.auto.disk }) ∙ one.0) }
+    let left = lent c.open.new.table c.open.new.segments c.open.new.lookers c.open.new.frame_counts c.open.new.used c.open.new.place_counts c.open.new.frames c.open.new.disk in
+    let after = lent (vec_items (with_items c.in_ok-table.table c.open.new.table)) (vec_items (with_items c.in_ok-segments.segments c.open.new.segments)) (vec_items (with_items c.in_ok-lookers.lookers c.open.new.lookers)) (vec_items (with_items c.in_ok-frame_counts.frame_counts c.open.new.frame_counts)) (vec_items (with_items c.in_ok-used.used c.open.new.used)) (vec_items (with_items c.in_ok-place_counts.place_counts c.open.new.place_counts)) (vec_items (with_items c.in_ok-frames.frames c.open.new.frames)) (vec_items (with_items c.in_ok-disk.disk c.open.new.disk)) in
+    let one = opened_manager (entry_refusal z given) z given c.open.result left g c.in_ok-manager.was c.open.ensures in
+    record { roomy = ap (λ (o : Option Refusal). is_some o) (ap (λ (y : Sizes). entry_refusal y after) one.1 ∙ as_roomy z given after (record { table = ap length (with_items_is c.in_ok-table.table c.open.new.table (c.open.auto.table ∙ c.as_mut_slice.ensures.len)) ∙ c.open.auto.table; segments = ap length (with_items_is c.in_ok-segments.segments c.open.new.segments (c.open.auto.segments ∙ c.as_mut_slice-2.ensures.len)) ∙ c.open.auto.segments; lookers = ap length (with_items_is c.in_ok-lookers.lookers c.open.new.lookers (c.open.auto.lookers ∙ c.as_mut_slice-3.ensures.len)) ∙ c.open.auto.lookers; frame_counts = ap length (with_items_is c.in_ok-frame_counts.frame_counts c.open.new.frame_counts (c.open.auto.frame_counts ∙ c.as_mut_slice-4.ensures.len)) ∙ c.open.auto.frame_counts; used = ap length (with_items_is c.in_ok-used.used c.open.new.used (c.open.auto.used ∙ c.as_mut_slice-5.ensures.len)) ∙ c.open.auto.used; place_counts = ap length (with_items_is c.in_ok-place_counts.place_counts c.open.new.place_counts (c.open.auto.place_counts ∙ c.as_mut_slice-6.ensures.len)) ∙ c.open.auto.place_counts; frames = ap length (with_items_is c.in_ok-frames.frames c.open.new.frames (c.open.auto.frames ∙ c.as_mut_slice-7.ensures.len)) ∙ c.open.auto.frames; disk = ap length (with_items_is c.in_ok-disk.disk c.open.new.disk (c.open.auto.disk ∙ c.as_mut_slice-8.ensures.len)) ∙ c.open.auto.disk }) ∙ one.0) }
 
 pub returns : goal.returns
 returns c =
     let z = c.args.sizes in
     let g = c.in_ok-manager.manager in
     let given = lent c.as_mut_slice.result.now c.as_mut_slice-2.result.now c.as_mut_slice-3.result.now c.as_mut_slice-4.result.now c.as_mut_slice-5.result.now c.as_mut_slice-6.result.now c.as_mut_slice-7.result.now c.as_mut_slice-8.result.now in
-    let left = lent c.open_slices.new.table c.open_slices.new.segments c.open_slices.new.lookers c.open_slices.new.frame_counts c.open_slices.new.used c.open_slices.new.place_counts c.open_slices.new.frames c.open_slices.new.disk in
-    let after = lent (vec_items (with_items c.in_ok-table.table c.open_slices.new.table)) (vec_items (with_items c.in_ok-segments.segments c.open_slices.new.segments)) (vec_items (with_items c.in_ok-lookers.lookers c.open_slices.new.lookers)) (vec_items (with_items c.in_ok-frame_counts.frame_counts c.open_slices.new.frame_counts)) (vec_items (with_items c.in_ok-used.used c.open_slices.new.used)) (vec_items (with_items c.in_ok-place_counts.place_counts c.open_slices.new.place_counts)) (vec_items (with_items c.in_ok-frames.frames c.open_slices.new.frames)) (vec_items (with_items c.in_ok-disk.disk c.open_slices.new.disk)) in
-    let one = opened_manager (entry_refusal z given) z given c.open_slices.result left g c.in_ok-manager.was c.open_slices.ensures in
-    let back : left ≡ after = λ i. lent (sym (with_items_is c.in_ok-table.table c.open_slices.new.table (c.open_slices.auto.table ∙ c.as_mut_slice.ensures.len)) i) (sym (with_items_is c.in_ok-segments.segments c.open_slices.new.segments (c.open_slices.auto.segments ∙ c.as_mut_slice-2.ensures.len)) i) (sym (with_items_is c.in_ok-lookers.lookers c.open_slices.new.lookers (c.open_slices.auto.lookers ∙ c.as_mut_slice-3.ensures.len)) i) (sym (with_items_is c.in_ok-frame_counts.frame_counts c.open_slices.new.frame_counts (c.open_slices.auto.frame_counts ∙ c.as_mut_slice-4.ensures.len)) i) (sym (with_items_is c.in_ok-used.used c.open_slices.new.used (c.open_slices.auto.used ∙ c.as_mut_slice-5.ensures.len)) i) (sym (with_items_is c.in_ok-place_counts.place_counts c.open_slices.new.place_counts (c.open_slices.auto.place_counts ∙ c.as_mut_slice-6.ensures.len)) i) (sym (with_items_is c.in_ok-frames.frames c.open_slices.new.frames (c.open_slices.auto.frames ∙ c.as_mut_slice-7.ensures.len)) i) (sym (with_items_is c.in_ok-disk.disk c.open_slices.new.disk (c.open_slices.auto.disk ∙ c.as_mut_slice-8.ensures.len)) i) in
+    let left = lent c.open.new.table c.open.new.segments c.open.new.lookers c.open.new.frame_counts c.open.new.used c.open.new.place_counts c.open.new.frames c.open.new.disk in
+    let after = lent (vec_items (with_items c.in_ok-table.table c.open.new.table)) (vec_items (with_items c.in_ok-segments.segments c.open.new.segments)) (vec_items (with_items c.in_ok-lookers.lookers c.open.new.lookers)) (vec_items (with_items c.in_ok-frame_counts.frame_counts c.open.new.frame_counts)) (vec_items (with_items c.in_ok-used.used c.open.new.used)) (vec_items (with_items c.in_ok-place_counts.place_counts c.open.new.place_counts)) (vec_items (with_items c.in_ok-frames.frames c.open.new.frames)) (vec_items (with_items c.in_ok-disk.disk c.open.new.disk)) in
+    let one = opened_manager (entry_refusal z given) z given c.open.result left g c.in_ok-manager.was c.open.ensures in
+    let back : left ≡ after = λ i. lent (sym (with_items_is c.in_ok-table.table c.open.new.table (c.open.auto.table ∙ c.as_mut_slice.ensures.len)) i) (sym (with_items_is c.in_ok-segments.segments c.open.new.segments (c.open.auto.segments ∙ c.as_mut_slice-2.ensures.len)) i) (sym (with_items_is c.in_ok-lookers.lookers c.open.new.lookers (c.open.auto.lookers ∙ c.as_mut_slice-3.ensures.len)) i) (sym (with_items_is c.in_ok-frame_counts.frame_counts c.open.new.frame_counts (c.open.auto.frame_counts ∙ c.as_mut_slice-4.ensures.len)) i) (sym (with_items_is c.in_ok-used.used c.open.new.used (c.open.auto.used ∙ c.as_mut_slice-5.ensures.len)) i) (sym (with_items_is c.in_ok-place_counts.place_counts c.open.new.place_counts (c.open.auto.place_counts ∙ c.as_mut_slice-6.ensures.len)) i) (sym (with_items_is c.in_ok-frames.frames c.open.new.frames (c.open.auto.frames ∙ c.as_mut_slice-7.ensures.len)) i) (sym (with_items_is c.in_ok-disk.disk c.open.new.disk (c.open.auto.disk ∙ c.as_mut_slice-8.ensures.len)) i) in
     (one.1, (λ i. memory.machine g (cut_lent (one.1 i) (sym back i))) ∙ one.2)

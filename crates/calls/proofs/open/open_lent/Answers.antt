@@ -5,7 +5,7 @@ use Rattle.disk.specs.Moves.{lent}
 use Rattle.calls.specs.Entry.{cut_lent, entry_refusal, rest_lent}
 use Rattle.calls.proofs.Entering.{part_after, part_rest}
 use Rattle.calls.proofs.Opening.{filled, opened_done, zeroed}
-use Rattle.calls.proofs.open.open.Goals as goal
+use Rattle.calls.proofs.open.open_lent.Goals as goal
 
 pub returns-clause-opened : goal.returns-clause-opened
 returns-clause-opened c =

@@ -5,9 +5,11 @@ use Rattle.tables.specs.State.{Lent}
 use Rattle.tables.specs.Lent.{lists}
 use Rattle.disk.specs.Moves.{lent}
 use Rattle.calls.specs.Entry.{cut_lent, entry_refusal, rest_lent}
+use Rattle.requests.specs.declared.answer.Answer.{Answer}
+use Rattle.calls.specs.declared.manager.Manager.{Manager}
 use Rattle.calls.specs.Memory.{Served}
 use Rattle.calls.proofs.Entering.{called_answered, part, part_after, part_rest}
-use Rattle.calls.proofs.entry.call.Goals as goal
+use Rattle.calls.proofs.entry.call_lent.Goals as goal
 
 pub returns-clause-called : goal.returns-clause-called
 returns-clause-called c =
@@ -31,7 +33,7 @@ returns-clause-called c =
     let rest : rest_lent z after ≡ rest_lent z m =
     λ i. lent (part_rest n1 c.args.lent.now.table.now c.serve_cut-answer.new.table roomy.table kept.table i) (part_rest n2 c.args.lent.now.segments.now c.serve_cut-answer.new.segments roomy.segments kept.segments i) (part_rest n2 c.args.lent.now.lookers.now c.serve_cut-answer.new.lookers roomy.lookers kept.lookers i) (part_rest n3 c.args.lent.now.frame_counts.now c.serve_cut-answer.new.frame_counts roomy.frame_counts kept.frame_counts i) (part_rest n3 c.args.lent.now.used.now c.serve_cut-answer.new.used roomy.used kept.used i) (part_rest n4 c.args.lent.now.place_counts.now c.serve_cut-answer.new.place_counts roomy.place_counts kept.place_counts i) (part_rest n5 c.args.lent.now.frames.now c.serve_cut-answer.new.frames roomy.frames kept.frames i) (part_rest n6 c.args.lent.now.disk.now c.serve_cut-answer.new.disk roomy.disk kept.disk i) in
     let a = asked c.args.call in
-    let r = c.serve_cut-answer.result in
+    let r : Manager × Answer = (c.serve_cut-answer.new.manager, c.serve_cut-answer.result) in
     let served : Served g (cut_lent z m) a r (cut_lent z after) =
     subst (λ (x : Lent). Served g (cut_lent z m) a r x) cut (subst (λ (x : Lent). Served g x a r left) given c.serve_cut-answer.ensures) in
     called_answered (entry_refusal z m) g m a r.1 r.0 after (sym c.admit.ensures.value ∙ c.in_ok-admit.was) served rest
