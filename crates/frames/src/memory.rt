@@ -69,5 +69,8 @@ pub fn exchange(left: &mut [u8], at_left: usize, right: &mut [u8], at_right: usi
     ensures left { (n m : ℕ) → at_right < m → pages n left.new ≡ slice_set (pages n left.old) at_left (row (pages m right.old) at_right) }
     ensures right { (n m : ℕ) → at_left < m → pages n right.new ≡ slice_set (pages n right.old) at_right (row (pages m left.old) at_left) }
 {
-    left[span(at_left)].swap_with_slice(&mut right[span(at_right)]);
+    let mut page = [0u8; PAGE];
+    page.copy_from_slice(&left[span(at_left)]);
+    copy_across(right, at_right, left, at_left);
+    right[span(at_right)].copy_from_slice(&page);
 }
